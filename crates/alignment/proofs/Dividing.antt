@@ -1,0 +1,35 @@
+-- What each return of the code gives, in the words of the definitions.
+use Prim.Native.Nat.{ℕ, zero, suc, _+_, _-_, _*_, _%_, _^_, _≤_, _<_}
+use mathlib.Core.Path.{_≡_, refl, sym, ap, _∙_}
+use mathlib.Core.Bool.{Bool, true, false, not, _&&_}
+use native.Mathlib.Nat.{mod-zero, mod-eq-of-lt, one-mul}
+use native.Mathlib.Omega.{arith}
+use lib.Count.{trailingZeros}
+use lib.Dec.{eqb}
+use lib.Pow.{pow-lt}
+use Rattle.alignment.specs.Multiples.{multiple, fits, fits-length}
+use Rattle.alignment.specs.Pages.{smallestPage, trailing-lt}
+
+pub of-zero : (a x : ℕ) → a ≡ 0 → eqb x 0 ≡ multiple a x
+unfolding multiple
+of-zero a x z = rw z (ap (λ (r : ℕ). eqb r 0) (sym (mod-zero x)))
+
+pub of-some : (a x : ℕ) → eqb (x % a) 0 ≡ multiple a x
+unfolding multiple
+of-some a x = refl
+
+module _ (a s n : ℕ) where
+  pub start-off : multiple a s ≡ false → false ≡ fits a s n
+  start-off e = sym (fits-length a s n ∙ ap (λ (b : Bool). b && multiple a n) e)
+
+  pub length-tells : multiple a s ≡ true → multiple a n ≡ fits a s n
+  length-tells e = sym (fits-length a s n ∙ ap (λ (b : Bool). b && multiple a n) e)
+
+pub page-none : (n : ℕ) → n ≡ 0 → 1 ≡ smallestPage n
+unfolding smallestPage
+page-none n e = rw e
+
+pub page-some : (n : ℕ) → (n ≡ 0 → ⊥) → n < 2 ^ 64 → 1 * 2 ^ trailingZeros 64 n % 2 ^ 64 ≡ smallestPage n
+unfolding smallestPage
+page-some zero ne h = absurd (ne refl)
+page-some (suc n) ne h = rw (one-mul (2 ^ trailingZeros 64 (suc n))) (mod-eq-of-lt (pow-lt (trailing-lt 64 (suc n) (omega arith) h)))

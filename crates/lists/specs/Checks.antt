@@ -1,0 +1,91 @@
+-- A rule as a list of checks in order: the answer is that of the first check that fires, or `ok` where none does.
+-- What an accepted call may rely on comes by the place of a check: `passed`.
+use Prim.Native.Nat.{ℕ, zero, suc, _+_, _≤_, _<_}
+use mathlib.Core.Path.{_≡_, refl, sym, ap, _∙_}
+use mathlib.Core.Bool.{Bool, true, false, _&&_}
+use mathlib.Core.List.{List, [], _∷_, _++_}
+use mathlib.Core.Option.{Option, none, some}
+use native.Mathlib.Nat.{le-of-suc-le-suc, not-suc-le-zero}
+use native.Mathlib.Omega.{arith}
+use lib.ListN.{length, getD}
+use Rattle.lists.specs.Tests.{by-test, contrary, or-not-left, or-not-right}
+use Rattle.lists.specs.Search.{any, all, seek, seek-cons-true, seek-cons-false, seek-some-lt}
+use Rattle.lists.specs.Each.{Each}
+
+pub record Check (A : Type 0) : Type 0 where
+  pub fires : Bool
+  pub answer : A
+
+module _ {A : Type 0} where
+  -- «where b, the answer is a»
+  abbrev pub when : Bool → A → Check A
+  when b a = record { fires = b; answer = a }
+
+  unfoldable pub first : List (Check A) → A → A
+  first [] ok = ok
+  first (c ∷ cs) ok = elim (c .fires) [ true ↦ c .answer | false ↦ first cs ok ]
+
+  pub first-fires : (c : Check A) (cs : List (Check A)) (ok : A) → c .fires ≡ true → first (c ∷ cs) ok ≡ c .answer
+  unfolding first
+  first-fires c cs ok e = rw (e, first)
+
+  pub first-passes : (c : Check A) (cs : List (Check A)) (ok : A) → c .fires ≡ false → first (c ∷ cs) ok ≡ first cs ok
+  unfolding first
+  first-passes c cs ok e = rw (e, first)
+
+  pub first-append : (cs ds : List (Check A)) (ok : A) → first (cs ++ ds) ok ≡ first cs (first ds ok)
+  unfolding first
+  first-append [] ds ok = refl
+  first-append (c ∷ cs) ds ok =
+      by-test (c .fires)
+      (λ e. first-fires c (cs ++ ds) ok e ∙ sym (first-fires c cs (first ds ok) e))
+      (λ e. first-passes c (cs ++ ds) ok e ∙ first-append cs ds ok ∙ sym (first-passes c cs (first ds ok) e))
+
+  -- each answer, and ok, has P: so has the outcome
+  pub first-each : (P : A → Type 0) (cs : List (Check A)) (ok : A) → Each (λ c. P (c .answer)) cs → P ok → P (first cs ok)
+  unfolding first
+  first-each P [] ok h k = k
+  first-each P (c ∷ cs) ok h k =
+      by-test (c .fires)
+      (λ e. rw (first-fires c cs ok e) (h .0))
+      (λ e. rw (first-passes c cs ok e) (first-each P cs ok (h .1) k))
+
+  -- no answer of the list is ok
+  abbrev pub Refusals : List (Check A) → A → Type 0
+  Refusals cs ok = Each (λ c. c .answer ≡ ok → ⊥) cs
+
+  -- where the outcome is ok, the check at each place passed
+  pub passed : (cs : List (Check A)) (ok : A) (d : Check A) → Refusals cs ok → first cs ok ≡ ok → (i : ℕ) → i < length cs → getD cs i d .fires ≡ false
+  unfolding first
+  passed [] ok d r e i h = absurd (not-suc-le-zero h)
+  passed (c ∷ cs) ok d r e i h =
+      by-test (c .fires)
+      (λ t. absurd (r .0 (sym (first-fires c cs ok t) ∙ e)))
+      (λ t. at i h t (passed cs ok d (r .1) (sym (first-passes c cs ok t) ∙ e)))
+    where
+      at : (i : ℕ) → i < suc (length cs) → c .fires ≡ false → ((j : ℕ) → j < length cs → getD cs j d .fires ≡ false) → getD (c ∷ cs) i d .fires ≡ false
+      at zero h t rec = t
+      at (suc j) h t rec = rec j (le-of-suc-le-suc h)
+
+  -- and where each check passed, the outcome is ok
+  pub first-ok : (cs : List (Check A)) (ok : A) → any (λ c. c .fires) cs ≡ false → first cs ok ≡ ok
+  unfolding first any
+  first-ok [] ok e = refl
+  first-ok (c ∷ cs) ok e =
+      by-test (c .fires)
+      (λ t. contrary (c .fires) t (or-not-left (c .fires) (any (λ c. c .fires) cs) e))
+      (λ t. first-passes c cs ok t ∙ first-ok cs ok (or-not-right (c .fires) (any (λ c. c .fires) cs) e))
+
+  -- the outcome is the answer of the check at the first place that fires
+  pub first-seek : (cs : List (Check A)) (ok : A) (d : Check A) (i n : ℕ) → seek (λ (c : Check A). c .fires) i cs ≡ some (i + n) → first cs ok ≡ getD cs n d .answer
+  unfolding first seek
+  first-seek [] ok d i n e = let z : _≡_ {A = ℕ} 0 1 = cc in absurd (omega arith)
+  first-seek (c ∷ cs) ok d i n e =
+      by-test (c .fires)
+      (λ t. let f = seek-cons-true (λ (c : Check A). c .fires) i c cs t in let same : i ≡ i + n = cc in let z : n ≡ 0 = omega arith in rw z (first-fires c cs ok t))
+      (λ t. let f = sym (seek-cons-false (λ (c : Check A). c .fires) i c cs t) ∙ e in later n t f (seek-some-lt (λ (c : Check A). c .fires) (i + 1) cs (i + n) f .0) (first-seek cs ok d (i + 1)))
+    where
+      later : (n : ℕ) → c .fires ≡ false → seek (λ (c : Check A). c .fires) (i + 1) cs ≡ some (i + n) → i + 1 ≤ i + n
+          → ((m : ℕ) → seek (λ (c : Check A). c .fires) (i + 1) cs ≡ some (i + 1 + m) → first cs ok ≡ getD cs m d .answer) → first (c ∷ cs) ok ≡ getD (c ∷ cs) n d .answer
+      later zero t f h rec = absurd (omega arith)
+      later (suc m) t f h rec = let s : i + suc m ≡ i + 1 + m = omega arith in first-passes c cs ok t ∙ rec m (f ∙ ap some s)

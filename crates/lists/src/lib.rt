@@ -1,0 +1,1 @@
+// Laws on lists, sums and tests. No code: see specs/.
