@@ -25,6 +25,10 @@ module _ {A : Type 0} where
   first [] ok = ok
   first (c ∷ cs) ok = elim (c .fires) [ true ↦ c .answer | false ↦ first cs ok ]
 
+  pub first-nil : (ok : A) → first [] ok ≡ ok
+  unfolding first
+  first-nil ok = refl
+
   pub first-fires : (c : Check A) (cs : List (Check A)) (ok : A) → c .fires ≡ true → first (c ∷ cs) ok ≡ c .answer
   unfolding first
   first-fires c cs ok e = rw (e, first)

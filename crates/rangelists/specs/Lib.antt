@@ -1,0 +1,2 @@
+-- Lists of ranges: a device's reserved ranges and a space's allow list.
+pub mod Listed
