@@ -5,7 +5,7 @@ use mathlib.Core.Bool.{Bool, true, false, not, _&&_, _||_}
 use native.Mathlib.Nat.{le-refl}
 use native.Mathlib.Omega.{arith}
 use lib.Dec.{leb, eqb}
-use borrow.Author.Tests.{leb-true, leb-false, eqb-true, eqb-false, ltb-true, ltb-false, not-true, not-false}
+use borrow.Author.Tests.{leb-true, leb-false, le-leb, eqb-true, eqb-false, ltb-true, ltb-false, not-true, not-false}
 
 -- by cases on a test, with what it gave
 pub by-test : {C : Type 0} (b : Bool) → (b ≡ true → C) → (b ≡ false → C) → C
@@ -38,6 +38,13 @@ and-right false b e = contrary false e refl
 
 pub and-both : (a b : Bool) → a ≡ true → b ≡ true → (a && b) ≡ true
 and-both a b p q = rw (p, q)
+
+-- two pairs of comparisons are one where each pair gives the other
+pub leb-and-iff : (a b c d e f g h : ℕ) → (a ≤ b → c ≤ d → (e ≤ f) × (g ≤ h)) → (e ≤ f → g ≤ h → (a ≤ b) × (c ≤ d)) → (leb a b && leb c d) ≡ (leb e f && leb g h)
+leb-and-iff a b c d e f g h to back =
+    same-test (leb a b && leb c d) (leb e f && leb g h)
+    (λ t. let r = to (leb-true a b (and-left (leb a b) (leb c d) t)) (leb-true c d (and-right (leb a b) (leb c d) t)) in and-both (leb e f) (leb g h) (le-leb e f (r .0)) (le-leb g h (r .1)))
+    (λ t. let r = back (leb-true e f (and-left (leb e f) (leb g h) t)) (leb-true g h (and-right (leb e f) (leb g h) t)) in and-both (leb a b) (leb c d) (le-leb a b (r .0)) (le-leb c d (r .1)))
 
 pub and-not-left : (a b : Bool) → a ≡ false → (a && b) ≡ false
 and-not-left a b p = rw p

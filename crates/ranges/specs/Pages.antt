@@ -4,8 +4,8 @@ use mathlib.Core.Path.{_≡_, refl, sym, ap, _∙_}
 use mathlib.Core.Bool.{Bool, true, false, _&&_}
 use native.Mathlib.Omega.{arith}
 use lib.Dec.{leb, ltb, eqb}
-use borrow.Author.Tests.{leb-true, ltb-true, le-leb, lt-ltb, eqb-true, eq-eqb}
-use Rattle.lists.specs.Tests.{same-test, and-left, and-right, and-both}
+use borrow.Author.Tests.{eqb-true, eq-eqb}
+use Rattle.lists.specs.Tests.{same-test, leb-and-iff}
 use Rattle.lists.specs.Below.{countBelow, countBelow-cong, countBelow-run}
 use Rattle.ranges.specs.declared.Range.{Range}
 use Rattle.ranges.specs.Ranges.{range, holds, share, holds-from, holds-upto, holds-of, share-ends}
@@ -35,19 +35,9 @@ pub pages-count : (m n k : ℕ) → 0 < n → m + n ≤ 4096 * k → countBelow 
 unfolding pagesTouched touched page
 pages-count m zero k h f = absurd (omega arith)
 pages-count m (suc l) k h f =
-    countBelow-cong k (touched m (suc l)) (λ p. leb (m / 4096) p && ltb p ((m + l) / 4096 + 1)) (λ p g. run p)
-    ∙ countBelow-run k (m / 4096) ((m + l) / 4096 + 1) (omega arith)
-    ∙ (let z : (m + l) / 4096 + 1 - m / 4096 ≡ (m + l) / 4096 - m / 4096 + 1 = omega arith in z)
+    omega (arith, countBelow-cong k (touched m (suc l)) (λ p. leb (m / 4096) p && ltb p ((m + l) / 4096 + 1)) (λ p g. run p), countBelow-run k (m / 4096) ((m + l) / 4096 + 1) (omega arith))
   where
     run : (p : ℕ) → touched m (suc l) p ≡ (leb (m / 4096) p && ltb p ((m + l) / 4096 + 1))
     run p =
         share-ends (page p) (range m (m + (suc l - 1))) (omega arith) (omega arith)
-        ∙ same-test (leb (4096 * p) (m + (suc l - 1)) && leb m (4096 * p + 4095)) (leb (m / 4096) p && ltb p ((m + l) / 4096 + 1))
-        (λ e.
-        let a = leb-true (4096 * p) (m + (suc l - 1)) (and-left (leb (4096 * p) (m + (suc l - 1))) (leb m (4096 * p + 4095)) e) in
-        let b = leb-true m (4096 * p + 4095) (and-right (leb (4096 * p) (m + (suc l - 1))) (leb m (4096 * p + 4095)) e) in
-        and-both (leb (m / 4096) p) (ltb p ((m + l) / 4096 + 1)) (le-leb (m / 4096) p (omega arith)) (lt-ltb p ((m + l) / 4096 + 1) (omega arith)))
-        (λ e.
-        let a = leb-true (m / 4096) p (and-left (leb (m / 4096) p) (ltb p ((m + l) / 4096 + 1)) e) in
-        let b = ltb-true p ((m + l) / 4096 + 1) (and-right (leb (m / 4096) p) (ltb p ((m + l) / 4096 + 1)) e) in
-        and-both (leb (4096 * p) (m + (suc l - 1))) (leb m (4096 * p + 4095)) (le-leb (4096 * p) (m + (suc l - 1)) (omega arith)) (le-leb m (4096 * p + 4095) (omega arith)))
+        ∙ leb-and-iff (4096 * p) (m + (suc l - 1)) m (4096 * p + 4095) (m / 4096) p (suc p) ((m + l) / 4096 + 1) (λ a b. (omega arith, omega arith)) (λ a b. (omega arith, omega arith))

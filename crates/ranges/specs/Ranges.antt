@@ -33,41 +33,48 @@ module _ (r : Range) (a : ℕ) where
   unfolding holds
   holds-of h k = and-both (leb (r .start) a) (leb a (r .last)) (le-leb (r .start) a h) (le-leb a (r .last) k)
 
--- ---- two ranges share an address: the higher of their starts is at most the lower of their lasts
+-- ---- two ranges share an address
+
+-- what both hold starts at the higher start and ends at the lower last
+unfoldable pub sharedStart : Range → Range → ℕ
+sharedStart r q = max (r .start) (q .start)
+
+unfoldable pub sharedLast : Range → Range → ℕ
+sharedLast r q = min (r .last) (q .last)
 
 unfoldable pub share : Range → Range → Bool
-share r q = leb (max (r .start) (q .start)) (min (r .last) (q .last))
+share r q = leb (sharedStart r q) (sharedLast r q)
 
 module _ (r q : Range) where
-  -- what is shared, from the test: the higher of the starts
+  -- an address in both, from the test
   pub share-address : share r q ≡ true → (a : ℕ) × (holds r a ≡ true) × (holds q a ≡ true)
-  unfolding share
+  unfolding share sharedStart sharedLast
   share-address e =
-      let h : max (r .start) (q .start) ≤ min (r .last) (q .last) = leb-true (max (r .start) (q .start)) (min (r .last) (q .last)) e in
-      (max (r .start) (q .start), holds-of r (max (r .start) (q .start)) (omega arith) (omega arith), holds-of q (max (r .start) (q .start)) (omega arith) (omega arith))
+      let h = leb-true (sharedStart r q) (sharedLast r q) e in
+      (sharedStart r q, holds-of r (sharedStart r q) (omega arith) (omega arith), holds-of q (sharedStart r q) (omega arith) (omega arith))
 
   -- and the test, from an address in both
   pub share-of : (a : ℕ) → holds r a ≡ true → holds q a ≡ true → share r q ≡ true
-  unfolding share
-  share-of a h k = le-leb (max (r .start) (q .start)) (min (r .last) (q .last)) (omega (arith, holds-from r a h, holds-upto r a h, holds-from q a k, holds-upto q a k))
+  unfolding share sharedStart sharedLast
+  share-of a h k = le-leb (sharedStart r q) (sharedLast r q) (omega (arith, holds-from r a h, holds-upto r a h, holds-from q a k, holds-upto q a k))
 
   pub share-false : (a : ℕ) → share r q ≡ false → holds r a ≡ true → holds q a ≡ true → ⊥
   share-false a e h k = contrary (share r q) (share-of a h k) e
 
   pub share-comm : share r q ≡ share q r
-  unfolding share
-  share-comm = leb-iff (max (r .start) (q .start)) (min (r .last) (q .last)) (max (q .start) (r .start)) (min (q .last) (r .last)) (λ h. omega arith) (λ h. omega arith)
+  unfolding share sharedStart sharedLast
+  share-comm = leb-iff (sharedStart r q) (sharedLast r q) (sharedStart q r) (sharedLast q r) (λ h. omega arith) (λ h. omega arith)
 
   -- between two ranges that each hold an address, the test is that neither ends before the other starts
   pub share-ends : r .start ≤ r .last → q .start ≤ q .last → share r q ≡ (leb (r .start) (q .last) && leb (q .start) (r .last))
-  unfolding share
+  unfolding share sharedStart sharedLast
   share-ends h k =
       same-test (share r q) (leb (r .start) (q .last) && leb (q .start) (r .last))
-      (λ e. let m = leb-true (max (r .start) (q .start)) (min (r .last) (q .last)) e in and-both (leb (r .start) (q .last)) (leb (q .start) (r .last)) (le-leb (r .start) (q .last) (omega arith)) (le-leb (q .start) (r .last) (omega arith)))
+      (λ e. let m = leb-true (sharedStart r q) (sharedLast r q) e in and-both (leb (r .start) (q .last)) (leb (q .start) (r .last)) (le-leb (r .start) (q .last) (omega arith)) (le-leb (q .start) (r .last) (omega arith)))
       (λ e.
       let m = leb-true (r .start) (q .last) (and-left (leb (r .start) (q .last)) (leb (q .start) (r .last)) e) in
       let n = leb-true (q .start) (r .last) (and-right (leb (r .start) (q .last)) (leb (q .start) (r .last)) e) in
-      le-leb (max (r .start) (q .start)) (min (r .last) (q .last)) (omega arith))
+      le-leb (sharedStart r q) (sharedLast r q) (omega arith))
 
 -- ---- r lies wholly inside q
 
