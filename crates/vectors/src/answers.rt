@@ -137,8 +137,26 @@ fn reserved(body: &[u8]) {
 fn allowed(body: &[u8]) {
     let l = Allowed {
         count: half(body, 2),
-        starts: [word(body, 3), word(body, 4), word(body, 5), word(body, 6), word(body, 7), word(body, 8), word(body, 9), word(body, 10)],
-        lasts: [word(body, 11), word(body, 12), word(body, 13), word(body, 14), word(body, 15), word(body, 16), word(body, 17), word(body, 18)],
+        starts: [
+            word(body, 3),
+            word(body, 4),
+            word(body, 5),
+            word(body, 6),
+            word(body, 7),
+            word(body, 8),
+            word(body, 9),
+            word(body, 10),
+        ],
+        lasts: [
+            word(body, 11),
+            word(body, 12),
+            word(body, 13),
+            word(body, 14),
+            word(body, 15),
+            word(body, 16),
+            word(body, 17),
+            word(body, 18),
+        ],
     };
     text(b"allowed");
     truth(rangelists::allowed_valid(l));
