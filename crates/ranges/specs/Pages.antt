@@ -41,3 +41,12 @@ pages-count m (suc l) k h f =
     run p =
         share-ends (page p) (range m (m + (suc l - 1))) (omega arith) (omega arith)
         ∙ leb-and-iff (4096 * p) (m + (suc l - 1)) m (4096 * p + 4095) (m / 4096) p (suc p) ((m + l) / 4096 + 1) (λ a b. (omega arith, omega arith)) (λ a b. (omega arith, omega arith))
+
+-- 2 bytes from 4,095 touch 2 pages, and 2^40 bytes from 0 touch 2^28
+pub pages-edge : pagesTouched 4095 2 ≡ 2
+unfolding pagesTouched
+pages-edge = refl
+
+pub pages-longest : pagesTouched 0 (2 ^ 40) ≡ 2 ^ 28
+unfolding pagesTouched
+pages-longest = refl
