@@ -1,0 +1,6 @@
+-- The table: its records, what a space is made of, the charge, and when a table is good.
+pub mod Records
+pub mod Spaces
+pub mod Charge
+pub mod Good
+pub mod Checked

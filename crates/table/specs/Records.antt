@@ -1,0 +1,102 @@
+-- The records of the table (document 01, "Table"): 32 objects with the ids 1 to 32, and 128 mappings shared by all spaces.
+use Prim.Native.Nat.{ℕ, zero, suc, _+_, _/_, _%_, _≤_, _<_, _^_}
+use mathlib.Core.Bool.{Bool, true, false, not, _&&_, _||_}
+use mathlib.Core.List.{List, [], _∷_}
+use lib.Dec.{leb, ltb, eqb}
+use lib.ListN.{getD, replicate}
+use Rattle.lists.specs.Search.{any}
+use Rattle.ranges.specs.declared.Range.{Range}
+use Rattle.ranges.specs.Ranges.{span, share}
+use Rattle.rangelists.specs.declared.Reserved.{Reserved}
+use Rattle.rangelists.specs.declared.Allowed.{Allowed}
+use Rattle.command.specs.Flags.{bit}
+use Rattle.table.specs.declared.Attachment.{Attachment}
+use Rattle.table.specs.declared.Attachment.the-variants.{Loose, Attached}
+use Rattle.table.specs.declared.Kind.{Kind}
+use Rattle.table.specs.declared.Kind.the-variants.{Free, Space, Device}
+use Rattle.table.specs.declared.Object.{Object}
+use Rattle.table.specs.declared.Mapping.{Mapping}
+use Rattle.table.specs.declared.Table.{Table}
+
+-- ---- objects
+
+-- what a read past the end of the objects gives
+abbrev pub zeroObject : Object
+zeroObject = record {
+  kind = Free;
+  bitmap = 0;
+  reserved = record { count = 0; starts = []; lasts = [] };
+  allow = record { count = 0; starts = []; lasts = [] };
+}
+
+-- empty lists of ranges, with all their places zero
+abbrev pub noReserved : Reserved
+noReserved = record { count = 0; starts = replicate 4 0; lasts = replicate 4 0 }
+
+abbrev pub noAllowed : Allowed
+noAllowed = record { count = 0; starts = replicate 8 0; lasts = replicate 8 0 }
+
+-- a released record, and a new space
+abbrev pub freeObject : Object
+freeObject = record { kind = Free; bitmap = 0; reserved = noReserved; allow = noAllowed }
+
+abbrev pub newSpace : Object
+newSpace = record { kind = Space; bitmap = 0; reserved = noReserved; allow = noAllowed }
+
+abbrev pub isFree : Kind → Bool
+isFree Free = true
+isFree Space = false
+isFree (Device a) = false
+
+abbrev pub isSpace : Kind → Bool
+isSpace Free = false
+isSpace Space = true
+isSpace (Device a) = false
+
+abbrev pub isDevice : Kind → Bool
+isDevice Free = false
+isDevice Space = false
+isDevice (Device a) = true
+
+-- the object with an id, and a record that is all zero for an id that no record has
+unfoldable pub objectAt : List Object → ℕ → Object
+objectAt os zero = zeroObject
+objectAt os (suc i) = getD os i zeroObject
+
+unfoldable pub spaceAt : List Object → ℕ → Bool
+spaceAt os id = isSpace (objectAt os id .kind)
+
+abbrev pub attachedBy : ℕ → Attachment → Bool
+attachedBy s Loose = false
+attachedBy s (Attached h) = eqb h s
+
+-- the object is a device that is attached to space s
+abbrev pub attachedTo : ℕ → Kind → Bool
+attachedTo s Free = false
+attachedTo s Space = false
+attachedTo s (Device a) = attachedBy s a
+
+-- ---- mappings
+
+abbrev pub zeroMapping : Mapping
+zeroMapping = record { space = 0; rights = 0; founder = 0; backing = 0; address = 0; length = 0; memory = 0 }
+
+unfoldable pub used : Mapping → Bool
+used m = not (eqb (m .space) 0)
+
+unfoldable pub ofSpace : ℕ → Mapping → Bool
+ofSpace s m = eqb (m .space) s
+
+-- the addresses of a mapping
+unfoldable pub extent : Mapping → Range
+extent m = span (m .address) (m .length)
+
+-- it is a mapping of space s and shares an address with r
+unfoldable pub touches : ℕ → Range → Mapping → Bool
+touches s r m = ofSpace s m && share r (extent m)
+
+unfoldable pub canWrite : Mapping → Bool
+canWrite m = bit 0 (m .rights)
+
+unfoldable pub canRead : Mapping → Bool
+canRead m = bit 1 (m .rights)
