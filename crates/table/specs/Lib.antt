@@ -3,4 +3,6 @@ pub mod Records
 pub mod Spaces
 pub mod Charge
 pub mod Good
+pub mod Once
 pub mod Checked
+pub mod Sound
