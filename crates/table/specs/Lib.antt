@@ -6,3 +6,8 @@ pub mod Good
 pub mod Once
 pub mod Checked
 pub mod Sound
+pub mod Facts
+pub mod Replaced
+pub mod Moved
+pub mod Cleared
+pub mod Charged

@@ -1,32 +1,32 @@
 -- Two ways to say that elements do not clash: no two do, or nothing is had by more than one of them.
 use Prim.Native.Nat.{ℕ, zero, suc, _+_, _≤_, _<_, zero-le}
 use mathlib.Core.Path.{_≡_, refl, sym, ap, _∙_}
-use mathlib.Core.Bool.{Bool, true, false, _||_}
+use mathlib.Core.Bool.{Bool, true, false, not, _||_}
 use mathlib.Core.List.{List, [], _∷_}
 use native.Mathlib.Omega.{arith}
 use lib.ListN.{length, getD}
-use Rattle.lists.specs.Tests.{by-test, contrary, onlyIf, or-not-left, or-not-right, or-neither}
+use Rattle.lists.specs.Tests.{by-test, contrary, onlyIf, onlyIf-split, or-not-left, or-not-right, or-neither}
 use Rattle.lists.specs.Search.{any, any-none, any-at, any-place}
 use Rattle.lists.specs.Pairs.{clashes}
 use Rattle.lists.specs.Sums.{sumOf, countOf, sumOf-cons, sumOf-nil}
 
 module _ {A : Type 0} where
-  countOf-cons : (p : A → Bool) (x : A) (xs : List A) → countOf p (x ∷ xs) ≡ onlyIf (p x) 1 + countOf p xs
+  pub countOf-cons : (p : A → Bool) (x : A) (xs : List A) → countOf p (x ∷ xs) ≡ onlyIf (p x) 1 + countOf p xs
   unfolding countOf
   countOf-cons p x xs = sumOf-cons (λ y. onlyIf (p y) 1) x xs
 
-  countOf-nil : (p : A → Bool) → countOf p [] ≡ 0
+  pub countOf-nil : (p : A → Bool) → countOf p [] ≡ 0
   unfolding countOf
   countOf-nil p = sumOf-nil (λ y. onlyIf (p y) 1)
 
   -- where none passes, the count is 0
-  countOf-none : (p : A → Bool) (xs : List A) → any p xs ≡ false → countOf p xs ≡ 0
+  pub countOf-none : (p : A → Bool) (xs : List A) → any p xs ≡ false → countOf p xs ≡ 0
   unfolding any
   countOf-none p [] e = countOf-nil p
   countOf-none p (x ∷ xs) e = countOf-cons p x xs ∙ rw (or-not-left (p x) (any p xs) e, countOf-none p xs (or-not-right (p x) (any p xs) e)) refl
 
   -- where some passes, the count is at least 1
-  countOf-some : (p : A → Bool) (xs : List A) → any p xs ≡ true → 1 ≤ countOf p xs
+  pub countOf-some : (p : A → Bool) (xs : List A) → any p xs ≡ true → 1 ≤ countOf p xs
   unfolding any
   countOf-some p [] e = contrary false e refl
   countOf-some p (x ∷ xs) e =
@@ -34,7 +34,7 @@ module _ {A : Type 0} where
       (λ t. rw (countOf-cons p x xs, t) (omega arith))
       (λ t. rw (countOf-cons p x xs, t) (omega (arith, countOf-some p xs (rw t at e))))
 
-  countOf-at : (p : A → Bool) (xs : List A) (d : A) (i : ℕ) → i < length xs → p (getD xs i d) ≡ true → 1 ≤ countOf p xs
+  pub countOf-at : (p : A → Bool) (xs : List A) (d : A) (i : ℕ) → i < length xs → p (getD xs i d) ≡ true → 1 ≤ countOf p xs
   countOf-at p xs d i h e = countOf-some p xs (any-at p xs d i h e)
 
   -- any two that pass p clash, and none clash: at most one passes p
@@ -63,3 +63,8 @@ module _ {A : Type 0} where
           let one = countOf-at (p (k .0)) xs x (w .0) (w .1) (k .2) in
           let two : countOf (p (k .0)) (x ∷ xs) ≡ 1 + countOf (p (k .0)) xs = countOf-cons (p (k .0)) x xs ∙ rw (k .1) refl in
           omega (arith, f (k .0), one, two)
+
+  -- those that pass and those that do not
+  pub countOf-not : (p : A → Bool) (xs : List A) → countOf p xs + countOf (λ x. not (p x)) xs ≡ length xs
+  countOf-not p [] = omega (arith, countOf-nil p, countOf-nil (λ x. not (p x)))
+  countOf-not p (x ∷ xs) = omega (arith, countOf-cons p x xs, countOf-cons (λ x. not (p x)) x xs, countOf-not p xs, onlyIf-split (p x) 1)

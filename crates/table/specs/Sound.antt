@@ -78,10 +78,11 @@ together-covers m n e =
     let um = and-left (used m) (eqb (m .space) (n .space) && share (extent m) (extent n)) e in
     let rm = and-right (used m) (eqb (m .space) (n .space) && share (extent m) (extent n)) e in
     let s = eqb-true (m .space) (n .space) (and-left (eqb (m .space) (n .space)) (share (extent m) (extent n)) rm) in
-    let w = share-address (extent m) (extent n) (and-right (eqb (m .space) (n .space)) (share (extent m) (extent n)) rm) in
-    (record { space = m .space; address = w .0 },
-    and-both (used m) (eqb (m .space) (m .space) && holds (extent m) (w .0)) um (and-both (eqb (m .space) (m .space)) (holds (extent m) (w .0)) (eq-eqb (m .space) (m .space) refl) (w .1)),
-    and-both (used n) (eqb (n .space) (m .space) && holds (extent n) (w .0)) (ap (λ (x : ℕ). not (eqb x 0)) (sym s) ∙ um) (and-both (eqb (n .space) (m .space)) (holds (extent n) (w .0)) (eq-eqb (n .space) (m .space) (sym s)) (w .2)))
+    let w = share-address (extent m) (extent n) (and-right (eqb (m .space) (n .space)) (share (extent m) (extent n)) rm) in (
+      record { space = m .space; address = w .0 },
+      and-both (used m) (eqb (m .space) (m .space) && holds (extent m) (w .0)) um (and-both (eqb (m .space) (m .space)) (holds (extent m) (w .0)) (eq-eqb (m .space) (m .space) refl) (w .1)),
+      and-both (used n) (eqb (n .space) (m .space) && holds (extent n) (w .0)) (ap (λ (x : ℕ). not (eqb x 0)) (sym s) ∙ um) (and-both (eqb (n .space) (m .space)) (holds (extent n) (w .0)) (eq-eqb (n .space) (m .space) (sym s)) (w .2)),
+    )
 
 pub apart-once : (ms : List Mapping) → apart ms ≡ true → (s a : ℕ) → countOf (covers s a) ms ≤ 1
 unfolding apart
@@ -138,9 +139,10 @@ agree-tail m ms e h =
 agree-witness : (ms : List Mapping) → clashes differ ms ≡ false → Agree (witness ms) ms
 unfolding clashes witness
 agree-witness [] e = tt
-agree-witness (m ∷ ms) e =
-    (λ um. rw (um, eq-eqb (m .backing) (m .backing) refl) (record { memory = refl; length = refl; founder = refl }),
-    agree-tail m ms e (agree-witness ms (or-not-right (any (differ m) ms) (clashes differ ms) e)))
+agree-witness (m ∷ ms) e = (
+  λ um. rw (um, eq-eqb (m .backing) (m .backing) refl) (record { memory = refl; length = refl; founder = refl }),
+  agree-tail m ms e (agree-witness ms (or-not-right (any (differ m) ms) (clashes differ ms) e)),
+)
 
 -- two mappings that each share what their backing has do not differ
 agree-two : (info : ℕ → Backing) (m n : Mapping) → (used m ≡ true → Shares (info (m .backing)) m) → (used n ≡ true → Shares (info (n .backing)) n) → differ m n ≡ false
@@ -194,5 +196,13 @@ pub sound-good : (t : Table) → Sound t → good t ≡ true
 unfolding recordsOk backingsAgree recordsCounted limitHolds
 sound-good t g =
     good-grouped t
-    ∙ rw (g .objects, all-Each (recordOk (t .objects)) (t .mappings) (g .records), agree-clashes (g .info) (t .mappings) (g .agree), once-apart (t .mappings) (g .once),
-    eq-eqb (ListN.length (t .mappings)) 128 (g .counted), eq-eqb (ListN.length (t .objects)) 32 (g .places), le-leb (t .limit) (2 ^ 36) (g .most), le-leb (charge (t .mappings)) (t .limit) (g .charged))
+    ∙ rw (
+      g .objects,
+      all-Each (recordOk (t .objects)) (t .mappings) (g .records),
+      agree-clashes (g .info) (t .mappings) (g .agree),
+      once-apart (t .mappings) (g .once),
+      eq-eqb (ListN.length (t .mappings)) 128 (g .counted),
+      eq-eqb (ListN.length (t .objects)) 32 (g .places),
+      le-leb (t .limit) (2 ^ 36) (g .most),
+      le-leb (charge (t .mappings)) (t .limit) (g .charged),
+    )
