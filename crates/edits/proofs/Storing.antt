@@ -1,0 +1,52 @@
+-- What each return of the code gives, in the words of the definitions.
+use Prim.Native.Nat.{ℕ, _+_, _≤_, _<_}
+use mathlib.Core.Path.{_≡_, refl, sym, ap, _∙_}
+use mathlib.Core.List.{List, map}
+use lib.ListN.{length, set}
+use lib.Seq.{set-out}
+use borrow.Author.Tests.{eq-eqb, ne-eqb, le-leb, lt-leb}
+use Rattle.table.specs.declared.Object.{Object}
+use Rattle.table.specs.declared.Mapping.{Mapping}
+use Rattle.table.specs.declared.Table.{Table}
+use Rattle.table.specs.Records.{zeroMapping, freeObject, ofSpace}
+use Rattle.table.specs.Cleared.{release, release-true, release-false}
+use Rattle.edits.specs.declared.Change.the-variants.{Nothing, Put, Drop}
+use Rattle.edits.specs.declared.Edit.{Edit}
+use Rattle.edits.specs.Edits.{putObject, dropSpace, changed, applied}
+
+module _ (t : Table) (i : ℕ) where
+  pub put-past : (n : Object) → length (t .objects) ≡ 32 → 32 ≤ i → t ≡ putObject t i n
+  unfolding putObject
+  put-past n l h = ap (λ (os : List Object). record { limit = t .limit; objects = os; mappings = t .mappings }) (sym (set-out (t .objects) i n (rw l h)))
+
+  pub drop-past : 32 ≤ i → t ≡ dropSpace t i
+  unfolding dropSpace
+  drop-past h = rw (le-leb 32 i h)
+
+  pub drop-here : (os : List Object) (ms : List Mapping) → i < 32 → os ≡ set (t .objects) i freeObject → ms ≡ map (release (ofSpace (i + 1))) (t .mappings)
+      → _≡_ {A = Table} record { limit = t .limit; objects = os; mappings = ms } (dropSpace t i)
+  unfolding dropSpace
+  drop-here os ms h p q = rw (lt-leb 32 i h, p, q)
+
+module _ (s : ℕ) (m : Mapping) where
+  pub release-same : m .space ≡ s → zeroMapping ≡ release (ofSpace s) m
+  unfolding ofSpace
+  release-same e = sym (release-true (ofSpace s) m (eq-eqb (m .space) s e))
+
+  pub release-other : (m .space ≡ s → ⊥) → m ≡ release (ofSpace s) m
+  unfolding ofSpace
+  release-other e = sym (release-false (ofSpace s) m (ne-eqb (m .space) s e))
+
+-- the change decides
+module _ (t : Table) (e : Edit) where
+  pub by-nothing : e .change ≡ Nothing → t ≡ applied t e
+  unfolding applied
+  by-nothing h = ap (changed t (e .object)) (sym h)
+
+  pub by-put : (i : ℕ) (r : Table) → e .change ≡ Put i → r ≡ putObject t i (e .object) → r ≡ applied t e
+  unfolding applied
+  by-put i r h k = k ∙ ap (changed t (e .object)) (sym h)
+
+  pub by-drop : (i : ℕ) (r : Table) → e .change ≡ Drop i → r ≡ dropSpace t i → r ≡ applied t e
+  unfolding applied
+  by-drop i r h k = k ∙ ap (changed t (e .object)) (sym h)

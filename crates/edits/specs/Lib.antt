@@ -1,0 +1,2 @@
+-- Edits of the object records: what a call decides, and the table after it.
+pub mod Edits

@@ -1,0 +1,168 @@
+// What a call decides, as a small edit, and the one function that applies it.
+ghost use mathlib.Core.List.{map};
+ghost use mathlib.Core.Path.{_≡_};
+ghost use Rattle.table.specs.Records.{freeObject, newSpace, ofSpace};
+ghost use Rattle.table.specs.Cleared.{release};
+ghost use Rattle.edits.specs.Edits.{refuse, accept, putObject, dropSpace, applied};
+use rangelists::Allowed;
+use rangelists::Reserved;
+use table::Kind;
+use table::Mapping;
+use table::Object;
+use table::Table;
+
+pub enum Change {
+    Nothing,
+    // The object record at a place becomes the edit's object.
+    Put(usize),
+    // The space at a place is released, and its mappings with it.
+    Drop(usize),
+}
+
+// The errno, or 0 with what to change and the number that the reply tells.
+pub struct Edit {
+    pub errno: u32,
+    pub value: u64,
+    pub change: Change,
+    pub object: Object,
+}
+
+// A released object record.
+pub fn free_object() -> Object
+    ensures { λ o. ⌜ o ≡ freeObject ⌝ }
+{
+    let reserved = Reserved {
+        count: 0,
+        starts: [0; 4],
+        lasts: [0; 4],
+    };
+    let allow = Allowed {
+        count: 0,
+        starts: [0; 8],
+        lasts: [0; 8],
+    };
+    Object {
+        kind: Kind::Free,
+        bitmap: 0,
+        reserved,
+        allow,
+    }
+}
+
+// A space with no allow list.
+pub fn new_space() -> Object
+    ensures { λ o. ⌜ o ≡ newSpace ⌝ }
+{
+    let reserved = Reserved {
+        count: 0,
+        starts: [0; 4],
+        lasts: [0; 4],
+    };
+    let allow = Allowed {
+        count: 0,
+        starts: [0; 8],
+        lasts: [0; 8],
+    };
+    Object {
+        kind: Kind::Space,
+        bitmap: 0,
+        reserved,
+        allow,
+    }
+}
+
+pub fn refusal(errno: u32) -> Edit
+    ensures { λ e. ⌜ e ≡ refuse errno ⌝ }
+{
+    let object = free_object();
+    Edit {
+        errno,
+        value: 0,
+        change: Change::Nothing,
+        object,
+    }
+}
+
+pub fn acceptance(value: u64, change: Change, object: Object) -> Edit
+    ensures { λ e. ⌜ e ≡ accept value change object ⌝ }
+{
+    Edit {
+        errno: 0,
+        value,
+        change,
+        object,
+    }
+}
+
+pub fn put_object(t: Table, i: usize, object: Object) -> Table
+    ensures { λ r. ⌜ r ≡ putObject t i object ⌝ }
+{
+    if 32 <= i {
+        return t;
+    }
+    let mut next = t;
+    next.objects[i] = object;
+    next
+}
+
+// A record of the space becomes all zero, another stays.
+fn released(space: u32, m: Mapping) -> Mapping
+    ensures { λ r. ⌜ r ≡ release (ofSpace space) m ⌝ }
+{
+    if m.space == space {
+        return Mapping {
+            space: 0,
+            rights: 0,
+            founder: 0,
+            backing: 0,
+            address: 0,
+            length: 0,
+            memory: 0,
+        };
+    }
+    m
+}
+
+// The mapping records with those of a space released.
+fn without_space(ms: [Mapping; 128], space: u32) -> [Mapping; 128]
+    ensures { λ r. ⌜ r ≡ map (release (ofSpace space)) ms ⌝ }
+{
+    let mut next = ms;
+    let mut k: usize = 0;
+    while k < 128 {
+        let m = ms[k];
+        let r = released(space, m);
+        next[k] = r;
+        k += 1;
+    }
+    next
+}
+
+pub fn drop_space(t: Table, i: usize) -> Table
+    ensures { λ r. ⌜ r ≡ dropSpace t i ⌝ }
+{
+    if 32 <= i {
+        return t;
+    }
+    let object = free_object();
+    let ms = t.mappings;
+    let kept = without_space(ms, (i + 1) as u32);
+    let mut next = t;
+    next.objects[i] = object;
+    next.mappings = kept;
+    next
+}
+
+pub fn apply(t: Table, e: Edit) -> Table
+    ensures { λ r. ⌜ r ≡ applied t e ⌝ }
+{
+    let change = e.change;
+    match change {
+        Change::Nothing => t,
+        Change::Put(i) => {
+            let object = e.object;
+            put_object(t, i, object)
+        }
+        Change::Drop(i) => drop_space(t, i),
+    }
+}
