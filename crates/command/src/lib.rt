@@ -1,6 +1,6 @@
 // Opening a command: the request table, the size field, the unknown tail. Then the flags of MAP and COPY, and the signed result of a call.
 ghost use mathlib.Core.Path.{_≡_};
-ghost use Prim.Native.Nat.{_≤_, _<_, _^_};
+ghost use Prim.Native.Nat.{_≤_};
 ghost use lib.IntN.{pos};
 ghost use lib.ListN.{length};
 ghost use Rattle.command.specs.Requests.{lookup};
@@ -89,7 +89,7 @@ pub fn open(request: u32, cmd: &[u8]) -> Opening
     open_row(command, known, cmd)
 }
 
-pub fn opening_errno(o: Opening) -> u32
+pub fn opening_errno(o: Opening) -> u8
     ensures { λ r. ⌜ r ≡ openingErrno o ⌝ }
 {
     match o {
@@ -128,17 +128,15 @@ pub fn has_unknown(flags: u32) -> bool
     flags & 0xFFFF_FFF8 != 0
 }
 
-// The signed result of a call: 0, or the negative of the errno.
-pub fn signed_result(errno: u32) -> i32
-    requires { ⌜ errno < 2 ^ 31 ⌝ }
+// The signed result of a call: 0, or the negative of the errno. An errno is a u8, so that its negative always fits.
+pub fn signed_result(errno: u8) -> i32
     ensures { λ r. ⌜ r ≡ result errno ⌝ }
 {
     -(errno as i32)
 }
 
 // Bind's result: the new id.
-pub fn id_result(id: u32) -> i32
-    requires { ⌜ id < 2 ^ 31 ⌝ }
+pub fn id_result(id: u8) -> i32
     ensures { λ r. ⌜ r ≡ pos id ⌝ }
 {
     id as i32

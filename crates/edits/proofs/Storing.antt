@@ -1,18 +1,22 @@
 -- What each return of the code gives, in the words of the definitions.
-use Prim.Native.Nat.{ℕ, _+_, _≤_, _<_}
+use Prim.Native.Nat.{ℕ, _+_, _≤_, _<_, _^_}
 use mathlib.Core.Path.{_≡_, refl, sym, ap, _∙_}
 use mathlib.Core.List.{List, map}
-use lib.ListN.{length, set}
+use lib.IntN.{ℤ, pos}
+use lib.ListN.{length, set, replicate}
 use lib.Seq.{set-out}
-use borrow.Author.Tests.{eq-eqb, ne-eqb, le-leb, lt-leb}
+use borrow.Author.Tests.{eq-eqb, ne-eqb, le-leb, lt-leb, lt-ltb, le-ltb}
+use Rattle.command.specs.Results.{result}
 use Rattle.table.specs.declared.Object.{Object}
 use Rattle.table.specs.declared.Mapping.{Mapping}
 use Rattle.table.specs.declared.Table.{Table}
-use Rattle.table.specs.Records.{zeroMapping, freeObject, ofSpace}
+use Rattle.table.specs.Records.{zeroMapping, freeObject, freshTable, ofSpace}
 use Rattle.table.specs.Cleared.{release, release-true, release-false}
 use Rattle.edits.specs.declared.Change.the-variants.{Nothing, Put, Drop}
+use Rattle.edits.specs.declared.Answer.{Answer}
 use Rattle.edits.specs.declared.Edit.{Edit}
 use Rattle.edits.specs.Edits.{putObject, dropSpace, changed, applied}
+use Rattle.edits.specs.Answers.{refusedBy, freshAnswer}
 
 module _ (t : Table) (i : ℕ) where
   pub put-past : (n : Object) → length (t .objects) ≡ 32 → 32 ≤ i → t ≡ putObject t i n
@@ -50,3 +54,19 @@ module _ (t : Table) (e : Edit) where
   pub by-drop : (i : ℕ) (r : Table) → e .change ≡ Drop i → r ≡ dropSpace t i → r ≡ applied t e
   unfolding applied
   by-drop i r h k = k ∙ ap (changed t (e .object)) (sym h)
+
+-- an answer by its two parts
+pub answer-is : (z y : ℤ) (t u : Table) → z ≡ y → t ≡ u → _≡_ {A = Answer} record { result = z; table = t } record { result = y; table = u }
+answer-is z y t u p q = rw (p, q)
+
+pub fresh-refused : (limit : ℕ) (t : Table) (a : Answer) → 2 ^ 36 < limit → t ≡ freshTable limit → a ≡ refusedBy t 22 → a ≡ freshAnswer limit
+unfolding refusedBy freshAnswer
+fresh-refused limit t a h e f = f ∙ rw (e, lt-ltb (2 ^ 36) limit h)
+
+pub fresh-made : (limit : ℕ) (z : ℤ) (t : Table) → limit ≤ 2 ^ 36 → t ≡ freshTable limit → z ≡ pos 0 → _≡_ {A = Answer} record { result = z; table = t } (freshAnswer limit)
+unfolding freshAnswer result
+fresh-made limit z t h e f = rw (e, f, le-ltb (2 ^ 36) limit h)
+
+pub fresh-table : (limit : ℕ) (o : Object) → o ≡ freeObject → _≡_ {A = Table} record { limit = limit; objects = replicate 32 o; mappings = replicate 128 zeroMapping } (freshTable limit)
+unfolding freshTable
+fresh-table limit o e = rw e

@@ -1,2 +1,4 @@
 -- Edits of the object records: what a call decides, and the table after it.
 pub mod Edits
+pub mod Answers
+pub mod Kept

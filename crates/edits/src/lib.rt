@@ -4,6 +4,7 @@ ghost use mathlib.Core.Path.{_≡_};
 ghost use Rattle.table.specs.Records.{freeObject, newSpace, ofSpace};
 ghost use Rattle.table.specs.Cleared.{release};
 ghost use Rattle.edits.specs.Edits.{refuse, accept, putObject, dropSpace, applied};
+ghost use Rattle.edits.specs.Answers.{refusedBy, outcome, freshAnswer};
 use rangelists::Allowed;
 use rangelists::Reserved;
 use table::Kind;
@@ -21,10 +22,16 @@ pub enum Change {
 
 // The errno, or 0 with what to change and the number that the reply tells.
 pub struct Edit {
-    pub errno: u32,
+    pub errno: u8,
     pub value: u64,
     pub change: Change,
     pub object: Object,
+}
+
+// What a call gives back: its result and the table after it.
+pub struct Answer {
+    pub result: i32,
+    pub table: Table,
 }
 
 // A released object record.
@@ -71,7 +78,7 @@ pub fn new_space() -> Object
     }
 }
 
-pub fn refusal(errno: u32) -> Edit
+pub fn refusal(errno: u8) -> Edit
     ensures { λ e. ⌜ e ≡ refuse errno ⌝ }
 {
     let object = free_object();
@@ -165,4 +172,53 @@ pub fn apply(t: Table, e: Edit) -> Table
         }
         Change::Drop(i) => drop_space(t, i),
     }
+}
+
+// A refusal: the table as it was.
+pub fn refused(t: Table, errno: u8) -> Answer
+    ensures { λ a. ⌜ a ≡ refusedBy t errno ⌝ }
+{
+    Answer {
+        result: command::signed_result(errno),
+        table: t,
+    }
+}
+
+// The result of an edit, 0 or the negative errno, and the table after it.
+pub fn settled(t: Table, e: Edit) -> Answer
+    ensures { λ a. ⌜ a ≡ outcome t e ⌝ }
+{
+    let errno = e.errno;
+    let table = apply(t, e);
+    Answer {
+        result: command::signed_result(errno),
+        table,
+    }
+}
+
+// A table with every record released. A limit above 2^36 is 22, and the table with it is bad: no call takes it.
+pub fn fresh(limit: u64) -> Answer
+    ensures { λ a. ⌜ a ≡ freshAnswer limit ⌝ }
+{
+    let object = free_object();
+    let objects = [object; 32];
+    let mapping = Mapping {
+        space: 0,
+        rights: 0,
+        founder: 0,
+        backing: 0,
+        address: 0,
+        length: 0,
+        memory: 0,
+    };
+    let mappings = [mapping; 128];
+    let table = Table {
+        limit,
+        objects,
+        mappings,
+    };
+    if 0x10_0000_0000 < limit {
+        return refused(table, 22);
+    }
+    Answer { result: 0, table }
 }

@@ -11,3 +11,4 @@ pub mod Replaced
 pub mod Moved
 pub mod Cleared
 pub mod Charged
+pub mod Fresh

@@ -76,6 +76,19 @@ attachedTo s Free = false
 attachedTo s Space = false
 attachedTo s (Device a) = attachedBy s a
 
+abbrev pub isAttached : Kind → Bool
+isAttached Free = false
+isAttached Space = false
+isAttached (Device Loose) = false
+isAttached (Device (Attached s)) = true
+
+-- the space that a device is attached to, 0 for any other object
+abbrev pub homeOf : Kind → ℕ
+homeOf Free = 0
+homeOf Space = 0
+homeOf (Device Loose) = 0
+homeOf (Device (Attached s)) = s
+
 -- ---- mappings
 
 abbrev pub zeroMapping : Mapping
@@ -100,3 +113,8 @@ canWrite m = bit 0 (m .rights)
 
 unfoldable pub canRead : Mapping → Bool
 canRead m = bit 1 (m .rights)
+
+-- ---- a fresh table: every record released
+
+unfoldable pub freshTable : ℕ → Table
+freshTable limit = record { limit = limit; objects = replicate 32 freeObject; mappings = replicate 128 zeroMapping }

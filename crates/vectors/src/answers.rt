@@ -165,10 +165,7 @@ fn allowed(body: &[u8]) {
 }
 
 // A signed result, by its sign and the errno.
-fn result(errno: u32) {
-    if 256 <= errno {
-        return;
-    }
+fn result(errno: u8) {
     text(b" ");
     if command::signed_result(errno) < 0 {
         text(b"-");
@@ -221,12 +218,8 @@ fn bytes(body: &[u8]) {
 
 // Bind's result for an id, by its sign and the number.
 fn id(body: &[u8]) {
-    let n = half(body, 0);
-    text(b"id");
-    if 32 < n {
-        return;
-    }
-    text(b" ");
+    let n = (word(body, 0) % 256) as u8;
+    text(b"id ");
     if command::id_result(n) < 0 {
         text(b"-");
     }

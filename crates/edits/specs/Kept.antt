@@ -1,0 +1,114 @@
+-- An edit keeps a sound table sound, given what the checks of its call have shown of the new object.
+use Prim.Native.Nat.{ℕ, zero, suc, _+_, _≤_, _<_}
+use mathlib.Core.Path.{_≡_, refl, sym, ap, subst, _∙_}
+use mathlib.Core.Bool.{Bool, true, false, not, _&&_, cond}
+use mathlib.Core.List.{List, map}
+use native.Mathlib.Numerals.{add-one}
+use native.Mathlib.Omega.{arith}
+use lib.Dec.{leb, eqb}
+use lib.ListN as ListN
+use lib.ListN.{set, length-set, length-map}
+use borrow.Author.Tests.{lt-leb, eqb-true, eqb-false, eq-eqb}
+use Rattle.lists.specs.Tests.{by-test, contrary}
+use Rattle.lists.specs.Search.{any, all}
+use Rattle.lists.specs.Each.{Each, Each-imp, Each-map, Each-zip}
+use Rattle.ranges.specs.Ranges.{share}
+use Rattle.alignment.specs.Multiples.{fits}
+use Rattle.table.specs.declared.Object.{Object}
+use Rattle.table.specs.declared.Mapping.{Mapping}
+use Rattle.table.specs.declared.Table.{Table}
+use Rattle.table.specs.Records.{freeObject, isSpace, spaceAt, attachedTo, used, ofSpace, extent, zeroMapping}
+use Rattle.table.specs.Spaces.{pageFor, reservedFor}
+use Rattle.table.specs.Charge.{charge}
+use Rattle.table.specs.Good.{deviceNames, deviceValid, listValid, listClear, objectZero, noDevice, noList, reservedRest, allowRest}
+use Rattle.wire.specs.Fields.{zeros}
+use Rattle.table.specs.Checked.{objectOk, recordOk}
+use Rattle.table.specs.Sound.{Sound}
+use Rattle.table.specs.Facts.{UsedOk, record-used, used-record, record-free, zero-record}
+use Rattle.table.specs.Replaced.{Hosts, objects-replaced, hosts-none, spaceAt-set-other, spaceAt-set-same}
+use Rattle.table.specs.Moved.{used-replaced, Quiet, quiet-reserved, quiet-fits}
+use Rattle.table.specs.Cleared.{release, release-true, release-false, release-once, release-agree}
+use Rattle.table.specs.Charged.{release-charge}
+use Rattle.edits.specs.Edits.{putObject, dropSpace}
+
+-- a released object keeps the rules of objects
+pub free-ok : (os : List Object) → objectOk os freeObject ≡ true
+unfolding objectOk deviceNames deviceValid listValid listClear objectZero noDevice noList reservedRest allowRest zeros all
+free-ok os = refl
+
+-- what is released charges nothing
+charge-less : (t : Table) (p : Mapping → Bool) → Sound t → charge (map (release p) (t .mappings)) ≤ t .limit
+unfolding charge
+charge-less t p g = omega (arith, release-charge (t .objects) (g .info) (t .mappings) (g .records) (g .agree) p (λ m. true), g .charged)
+
+-- what the new object asks of a mapping: its space stays one, its ranges are clear of it, its page fits
+pub record Bears (os : List Object) (i : ℕ) (n : Object) (m : Mapping) : Type 0 where
+  pub names : spaceAt (set os i n) (m .space) ≡ true
+  pub clear : any (share (extent m)) (reservedFor (m .space) n) ≡ false
+  pub aligned : fits (pageFor (m .space) n) (m .address) (m .length) ≡ true
+
+-- a record keeps its rules under a new object that bears it
+record-bears : (os : List Object) (i : ℕ) (n : Object) (m : Mapping) → recordOk os m ≡ true → (used m ≡ true → UsedOk os m → Bears os i n m) → recordOk (set os i n) m ≡ true
+record-bears os i n m e f =
+    by-test (used m)
+    (λ u. let k = record-used os m u e in let b = f u k in used-record (set os i n) m u (used-replaced os i n m k (b .names) (b .clear) (b .aligned)))
+    (λ u. rw (record-free os m u e) (zero-record (set os i n)))
+
+-- every used mapping is borne
+abbrev pub AllBorne : Table → ℕ → Object → Type 0
+AllBorne t i n = Each (λ m. used m ≡ true → UsedOk (t .objects) m → Bears (t .objects) i n m) (t .mappings)
+
+pub put-sound : (t : Table) (i : ℕ) (n : Object) → Sound t → i < 32 → Hosts (t .objects) i n → objectOk (set (t .objects) i n) n ≡ true → AllBorne t i n → Sound (putObject t i n)
+unfolding putObject
+put-sound t i n g h hosts new borne = record {
+  objects = objects-replaced (t .objects) i n (rw (g .places) h) (g .objects) hosts new;
+  records = Each-zip (λ m. recordOk (t .objects) m ≡ true) (λ m. used m ≡ true → UsedOk (t .objects) m → Bears (t .objects) i n m) (λ m. recordOk (set (t .objects) i n) m ≡ true) (t .mappings)
+      (λ m e f. record-bears (t .objects) i n m e f) (g .records) borne;
+  once = g .once;
+  info = g .info;
+  agree = g .agree;
+  counted = g .counted;
+  places = length-set (t .objects) i n ∙ g .places;
+  most = g .most;
+  charged = g .charged;
+}
+
+-- an object that is attached to nothing bears every mapping whose space stays a space
+pub quiet-bears : (os : List Object) (i : ℕ) (n : Object) (m : Mapping) → Quiet n → spaceAt (set os i n) (m .space) ≡ true → Bears os i n m
+quiet-bears os i n m q e = record { names = e; clear = quiet-reserved n q (m .space) (share (extent m)); aligned = quiet-fits n q (m .space) (m .address) (m .length) }
+
+-- a place that held no space: the mappings' spaces are elsewhere
+pub elsewhere : (os : List Object) (i : ℕ) (n : Object) (m : Mapping) → spaceAt os (suc i) ≡ false → UsedOk os m → spaceAt (set os i n) (m .space) ≡ true
+elsewhere os i n m e k =
+    spaceAt-set-other os i n (m .space) (λ s. contrary (spaceAt os (suc i)) (sym (ap (spaceAt os) s) ∙ k .names) e) ∙ k .names
+
+-- a space that no device is attached to is released, with its mappings
+quiet-free : Quiet freeObject
+quiet-free s = refl
+
+record-dropped : (os : List Object) (i : ℕ) (m : Mapping) → recordOk os m ≡ true → recordOk (set os i freeObject) (release (ofSpace (i + 1)) m) ≡ true
+unfolding ofSpace
+record-dropped os i m e =
+    by-test (eqb (m .space) (i + 1))
+    (λ s. rw (release-true (ofSpace (i + 1)) m s) (zero-record (set os i freeObject)))
+    (λ s. rw (release-false (ofSpace (i + 1)) m s) (record-bears os i freeObject m e (λ u k.
+    let ne = eqb-false (m .space) (i + 1) s in
+    quiet-bears os i freeObject m quiet-free (spaceAt-set-other os i freeObject (m .space) (λ z. ne (z ∙ sym (add-one i))) ∙ k .names))))
+
+pub drop-sound : (t : Table) (i : ℕ) → Sound t → i < 32 → any (λ o. attachedTo (suc i) (o .kind)) (t .objects) ≡ false → Sound (dropSpace t i)
+unfolding dropSpace
+drop-sound t i g h alone =
+    rw (lt-leb 32 i h) (record {
+      objects = objects-replaced (t .objects) i freeObject (rw (g .places) h) (g .objects) (hosts-none (t .objects) i freeObject alone) (free-ok (set (t .objects) i freeObject));
+      records = Each-map (λ m. recordOk (t .objects) m ≡ true) (λ m. recordOk (set (t .objects) i freeObject) m ≡ true) (release (ofSpace (i + 1))) (t .mappings) (record-dropped (t .objects) i) (g .records);
+      once = release-once (ofSpace (i + 1)) (t .mappings) (g .once);
+      info = g .info;
+      agree = release-agree (ofSpace (i + 1)) (g .info) (t .mappings) (g .agree);
+      counted = length-map (t .mappings) (release (ofSpace (i + 1))) ∙ g .counted;
+      places = length-set (t .objects) i freeObject ∙ g .places;
+      most = g .most;
+      charged = less;
+    })
+  where
+    less : charge (map (release (ofSpace (i + 1))) (t .mappings)) ≤ t .limit
+    less = charge-less t (ofSpace (i + 1)) g

@@ -1,0 +1,47 @@
+-- A fresh table is good, for every limit from 0 to 2^36.
+use Prim.Native.Nat.{ℕ, _+_, _≤_, _<_, _^_, zero-le}
+use mathlib.Core.Path.{_≡_, refl, sym, ap, _∙_}
+use mathlib.Core.Bool.{Bool, true, false, not, _&&_, _||_}
+use mathlib.Core.List.{List, [], _∷_}
+use native.Mathlib.Omega.{arith}
+use lib.ListN.{replicate, length-replicate}
+use Rattle.lists.specs.Tests.{contrary, onlyIf}
+use Rattle.lists.specs.Search.{any, all, find}
+use Rattle.lists.specs.Each.{Each-replicate}
+use Rattle.lists.specs.Sums.{countOf, sumOf, sumOf-replicate}
+use Rattle.lists.specs.Below.{sumBelow}
+use Rattle.wire.specs.Fields.{zeros}
+use Rattle.table.specs.declared.Object.{Object}
+use Rattle.table.specs.declared.Mapping.{Mapping}
+use Rattle.table.specs.Records.{freeObject, zeroMapping, used, freshTable}
+use Rattle.table.specs.Charge.{backs, backingPages, chargeIn, charge}
+use Rattle.table.specs.Good.{deviceNames, deviceValid, listValid, listClear, objectZero, noDevice, noList, reservedRest, allowRest, good}
+use Rattle.table.specs.Checked.{objectOk, objectsOk, recordOk}
+use Rattle.table.specs.Sound.{Sound, Shares, Backing, covers, sound-good}
+use Rattle.table.specs.Facts.{zero-record}
+
+fresh-objects : objectsOk (replicate 32 freeObject) ≡ true
+unfolding objectsOk objectOk deviceNames deviceValid listValid listClear objectZero noDevice noList reservedRest allowRest zeros all
+fresh-objects = refl
+
+fresh-charge : charge (replicate 128 zeroMapping) ≡ 0
+unfolding charge chargeIn sumBelow backingPages find backs
+fresh-charge = refl
+
+fresh-once : (s a : ℕ) → countOf (covers s a) (replicate 128 zeroMapping) ≤ 1
+unfolding countOf covers used
+fresh-once s a = omega (arith, sumOf-replicate (λ m. onlyIf (covers s a m) 1) 128 zeroMapping refl)
+
+pub fresh-good : (limit : ℕ) → limit ≤ 2 ^ 36 → good (freshTable limit) ≡ true
+unfolding freshTable used
+fresh-good limit h = sound-good (freshTable limit) (record {
+  objects = fresh-objects;
+  records = Each-replicate (λ m. recordOk (replicate 32 freeObject) m ≡ true) 128 zeroMapping (zero-record (replicate 32 freeObject));
+  once = fresh-once;
+  info = λ b. record { memory = 0; length = 0; founder = 0 };
+  agree = Each-replicate (λ m. used m ≡ true → Shares (record { memory = 0; length = 0; founder = 0 }) m) 128 zeroMapping (λ u. contrary false u refl);
+  counted = length-replicate 128 zeroMapping;
+  places = length-replicate 32 freeObject;
+  most = h;
+  charged = omega (arith, fresh-charge);
+})
