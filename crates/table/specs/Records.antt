@@ -58,10 +58,10 @@ isDevice Free = false
 isDevice Space = false
 isDevice (Device a) = true
 
--- the object with an id, and a record that is all zero for an id that no record has
+-- the object with an id, and a released one for an id that no record has
 unfoldable pub objectAt : List Object → ℕ → Object
-objectAt os zero = zeroObject
-objectAt os (suc i) = getD os i zeroObject
+objectAt os zero = freeObject
+objectAt os (suc i) = getD os i freeObject
 
 unfoldable pub spaceAt : List Object → ℕ → Bool
 spaceAt os id = isSpace (objectAt os id .kind)

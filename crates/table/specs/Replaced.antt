@@ -20,22 +20,38 @@ use Rattle.table.specs.declared.Attachment.the-variants.{Loose, Attached
 use Rattle.table.specs.declared.Kind.{Kind}
 use Rattle.table.specs.declared.Kind.the-variants.{Free, Space, Device}
 use Rattle.table.specs.declared.Object.{Object}
-use Rattle.table.specs.Records.{zeroObject, isSpace, objectAt, spaceAt, attachedTo, attachedBy}
+use Rattle.table.specs.Records.{zeroObject, freeObject, isSpace, objectAt, spaceAt, attachedTo, attachedBy}
 use Rattle.table.specs.Spaces.{pageFor, alignment, reservedFor, reservedOf, any-reservedOf}
 use Rattle.table.specs.Good.{namesBy, kindNames, deviceNames, deviceBy, deviceValid, listBy, listValid, listsTouch, clearBy, listClearBy, listClear, zeroBy, objectZero}
 use Rattle.table.specs.Checked.{objectOk, objectsOk}
+
+-- a read within the list does not look at what is given past its end
+pub getD-any : {A : Type 0} (xs : List A) (i : ℕ) (d e : A) → i < length xs → getD xs i d ≡ getD xs i e
+getD-any [] i d e h = absurd (not-suc-le-zero h)
+getD-any (x ∷ xs) zero d e h = refl
+getD-any (x ∷ xs) (suc i) d e h = getD-any xs i d e (le-of-suc-le-suc h)
+
+-- the object with the id of a place
+pub objectAt-place : (os : List Object) (i : ℕ) (d : Object) → i < length os → objectAt os (suc i) ≡ getD os i d
+unfolding objectAt
+objectAt-place os i d h = getD-any os i freeObject d h
+
+pub objectAt-past : (os : List Object) (id : ℕ) → length os < id → objectAt os id ≡ freeObject
+unfolding objectAt
+objectAt-past os zero h = refl
+objectAt-past os (suc i) h = List·getD-eq-default os freeObject (le-of-suc-le-suc h)
 
 -- ---- the object with an id, after a store at place i
 
 module _ (os : List Object) (i : ℕ) (n : Object) where
   pub objectAt-set-same : i < length os → objectAt (set os i n) (suc i) ≡ n
   unfolding objectAt
-  objectAt-set-same h = getD-set-same os i n zeroObject h
+  objectAt-set-same h = getD-set-same os i n freeObject h
 
   pub objectAt-set-other : (id : ℕ) → (id ≡ suc i → ⊥) → objectAt (set os i n) id ≡ objectAt os id
   unfolding objectAt
   objectAt-set-other zero ne = refl
-  objectAt-set-other (suc j) ne = getD-set-other os i j n zeroObject (λ e. ne (ap suc e))
+  objectAt-set-other (suc j) ne = getD-set-other os i j n freeObject (λ e. ne (ap suc e))
 
   pub spaceAt-set-other : (id : ℕ) → (id ≡ suc i → ⊥) → spaceAt (set os i n) id ≡ spaceAt os id
   unfolding spaceAt
@@ -51,7 +67,7 @@ unfolding spaceAt objectAt
 spaceAt-place os zero e = contrary false e refl
 spaceAt-place os (suc i) e =
     by-test (leb (length os) i)
-    (λ t. contrary false (sym (ap (λ (o : Object). isSpace (o .kind)) (List·getD-eq-default os zeroObject (leb-true (length os) i t))) ∙ e) refl)
+    (λ t. contrary false (sym (ap (λ (o : Object). isSpace (o .kind)) (List·getD-eq-default os freeObject (leb-true (length os) i t))) ∙ e) refl)
     (λ t. (i, refl, leb-false (length os) i t))
 
 -- ---- an object that keeps its rules in another list of objects: the space it names is one there, with an allow list that its ranges do not touch
