@@ -31,7 +31,7 @@ multiple-lower a b x (j, p) (k, q) h e =
     (λ t. let g = leb-false j k t in let l : k ≤ j = omega arith in let m = pow-mono l in let s : b ≡ a = omega (arith, p, q) in rw (← s) e)
 
 module _ (a b : ℕ) (p : Power a) (q : Power b) where
-  max-power : Power (max a b)
+  pub max-power : Power (max a b)
   max-power =
       by-test (leb a b)
       (λ e. let h = leb-true a b e in let s : max a b ≡ b = omega arith in rw s q)

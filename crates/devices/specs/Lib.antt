@@ -2,3 +2,4 @@
 pub mod Bind
 pub mod Attach
 pub mod Reach
+pub mod Kept
