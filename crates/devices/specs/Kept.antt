@@ -3,7 +3,6 @@ use Prim.Native.Nat.{ℕ, zero, suc, _+_, _-_, _≤_, _<_, _^_, min, max}
 use mathlib.Core.Path.{_≡_, refl, sym, ap, subst, _∙_}
 use mathlib.Core.Bool.{Bool, true, false, not, _&&_, _||_, cond}
 use mathlib.Core.List.{List, [], _∷_}
-use mathlib.Core.Option.{Option, none, some}
 use native.Mathlib.Nat.{mod-one}
 use native.Mathlib.Omega.{arith}
 use lib.Dec.{leb, ltb, eqb}
@@ -11,7 +10,7 @@ use lib.ListN.{getD, set, take, drop, List·getD-eq-default}
 use lib.ListN as ListN
 use borrow.Author.Tests.{eqb-true, eqb-false, eq-eqb, leb-true, leb-false, le-leb, lt-leb, ltb-false, not-true, not-false}
 use Rattle.lists.specs.Tests.{by-test, contrary, and-left, and-right, and-both, or-not-left, or-not-right}
-use Rattle.lists.specs.Search.{any, any-nil, all, all-at, seek-some-lt, seek-some-at, seek-some-before}
+use Rattle.lists.specs.Search.{any, any-nil, all}
 use Rattle.lists.specs.Each.{Each, Each-imp, Each-zip, Each-of, Each-any-false}
 use Rattle.lists.specs.Checks.{Check, when, first, passed, Refusals}
 use Rattle.ranges.specs.declared.Range.{Range}
@@ -35,45 +34,14 @@ use Rattle.table.specs.Good.{kindNames, deviceBy, listBy, listClearBy, zeroBy, 
 use Rattle.table.specs.Checked.{objectOk, objectsOk, recordOk}
 use Rattle.table.specs.Sound.{Sound}
 use Rattle.table.specs.Facts.{UsedOk}
-use Rattle.table.specs.Replaced.{getD-any, objectAt-place, objectAt-set-other, spaceAt-set-other, none-attached, hosts-none, spaceAt-place}
+use Rattle.table.specs.Replaced.{object-at-ok, objectAt-set-other, spaceAt-set-other, none-attached, hosts-none, spaceAt-place}
 use Rattle.table.specs.Moved.{Quiet}
 use Rattle.edits.specs.declared.Edit.{Edit}
 use Rattle.edits.specs.declared.Change.the-variants.{Put}
 use Rattle.edits.specs.Edits.{refuse, accept, settle, placed, putObject, applied}
-use Rattle.edits.specs.Kept.{Bears, AllBorne, put-sound, quiet-bears, elsewhere}
+use Rattle.edits.specs.Kept.{Bears, AllBorne, put-sound, quiet-bears, elsewhere, settle-sound, placed-sound}
 use Rattle.devices.specs.Bind.{onlyFirst, trimmed, newDevice, bindChecks, bindEdit}
 use Rattle.devices.specs.Attach.{blockedBy, misfits, alignmentWith, attachedObject, looseObject, attachChecks, attachEdit, detachChecks, detachEdit}
-
--- ---- a new object in the lowest free record
-
--- the lowest free record lies in the table and is no space
-free-place : (os : List Object) (i : ℕ) → freeRecord os ≡ some i → (i < ListN.length os) × (spaceAt os (suc i) ≡ false)
-unfolding freeRecord spaceAt
-free-place os i e =
-    let lt = seek-some-lt (λ (o : Object). isFree (o .kind)) 0 os i e in
-    let z : i ≡ 0 + i = omega arith in
-    let at = seek-some-at (λ (o : Object). isFree (o .kind)) 0 os freeObject i (e ∙ ap some z) in
-    let h : i < ListN.length os = omega (arith, lt .1) in
-    (h, ap (λ (o : Object). isSpace (o .kind)) (objectAt-place os i freeObject h) ∙ free-no-space (getD os i freeObject .kind) at)
-  where
-    free-no-space : (k : Kind) → isFree k ≡ true → isSpace k ≡ false
-    free-no-space Free e = refl
-    free-no-space Space e = contrary false e refl
-    free-no-space (Device a) e = refl
-
--- an object that is attached to nothing and keeps the rules of objects by itself can be placed
-pub placed-sound : (t : Table) (n : Object) → Sound t → Quiet n → ((os : List Object) → objectOk os n ≡ true) → Sound (applied t (placed (freeRecord (t .objects)) n))
-unfolding applied
-placed-sound t n g q ok = go (freeRecord (t .objects)) refl
-  where
-    go : (o : Option ℕ) → freeRecord (t .objects) ≡ o → Sound (applied t (placed o n))
-    go none e = g
-    go (some i) e =
-        let p = free-place (t .objects) i e in
-        put-sound t i n g (omega (arith, p .0, g .places))
-        (hosts-none (t .objects) i n (none-attached (t .objects) (suc i) (g .objects) (p .1)))
-        (ok (set (t .objects) i n))
-        (Each-of _ (t .mappings) (λ m u k. quiet-bears (t .objects) i n m q (elsewhere (t .objects) i n m (p .1) k)))
 
 -- ---- bind
 
@@ -130,12 +98,6 @@ quiet-new : (bitmap : ℕ) (l : Reserved) → Quiet (newDevice bitmap l)
 unfolding newDevice
 quiet-new bitmap l s = refl
 
--- the result of settling: a refusal leaves the table as it is
-pub settle-sound : (t : Table) (n : ℕ) (e : Edit) → Sound t → (n ≡ 0 → Sound (applied t e)) → Sound (applied t (settle n e))
-unfolding applied
-settle-sound t zero e g h = h refl
-settle-sound t (suc n) e g h = g
-
 pub bind-sound : (t : Table) (bitmap : ℕ) (l : Reserved) → Sound t → Sound (applied t (bindEdit (t .objects) bitmap l))
 unfolding bindEdit
 bind-sound t bitmap l g =
@@ -175,11 +137,6 @@ device-by os o (Device a) d e =
 device-fields : (os : List Object) (o : Object) → isDevice (o .kind) ≡ true → objectOk os o ≡ true → fieldsOk o ≡ true
 unfolding objectOk deviceNames deviceValid listValid listClear objectZero
 device-fields os o d e = device-by os o (o .kind) d e
-
--- the object at a place keeps the rules
-object-at-ok : (os : List Object) (i : ℕ) → i < ListN.length os → objectsOk os ≡ true → objectOk os (objectAt os (suc i)) ≡ true
-unfolding objectsOk
-object-at-ok os i h e = rw (objectAt-place os i freeObject h) (all-at (objectOk os) os freeObject e i h)
 
 -- ---- detach
 

@@ -3,33 +3,37 @@ use Prim.Native.Nat.{ℕ, zero, suc, _+_, _≤_, _<_}
 use mathlib.Core.Path.{_≡_, refl, sym, ap, subst, _∙_}
 use mathlib.Core.Bool.{Bool, true, false, not, _&&_, cond}
 use mathlib.Core.List.{List, map}
+use mathlib.Core.Option.{Option, none, some}
 use native.Mathlib.Numerals.{add-one}
 use native.Mathlib.Omega.{arith}
 use lib.Dec.{leb, eqb}
 use lib.ListN as ListN
-use lib.ListN.{set, length-set, length-map}
+use lib.ListN.{getD, set, length-set, length-map}
 use borrow.Author.Tests.{lt-leb, eqb-true, eqb-false, eq-eqb}
 use Rattle.lists.specs.Tests.{by-test, contrary}
-use Rattle.lists.specs.Search.{any, all}
-use Rattle.lists.specs.Each.{Each, Each-imp, Each-map, Each-zip}
+use Rattle.lists.specs.Search.{any, all, seek-some-lt, seek-some-at}
+use Rattle.lists.specs.Each.{Each, Each-of, Each-map, Each-zip}
 use Rattle.ranges.specs.Ranges.{share}
 use Rattle.alignment.specs.Multiples.{fits}
 use Rattle.table.specs.declared.Object.{Object}
 use Rattle.table.specs.declared.Mapping.{Mapping}
 use Rattle.table.specs.declared.Table.{Table}
-use Rattle.table.specs.Records.{freeObject, isSpace, spaceAt, attachedTo, used, ofSpace, extent, zeroMapping}
+use Rattle.table.specs.declared.Kind.{Kind}
+use Rattle.table.specs.declared.Kind.the-variants.{Free, Space, Device}
+use Rattle.table.specs.Records.{freeObject, isFree, isSpace, spaceAt, attachedTo, used, ofSpace, extent, zeroMapping}
 use Rattle.table.specs.Spaces.{pageFor, reservedFor}
-use Rattle.table.specs.Charge.{charge}
+use Rattle.table.specs.Charge.{charge, freeRecord}
 use Rattle.table.specs.Good.{deviceNames, deviceValid, listValid, listClear, objectZero, noDevice, noList, reservedRest, allowRest}
 use Rattle.wire.specs.Fields.{zeros}
 use Rattle.table.specs.Checked.{objectOk, recordOk}
 use Rattle.table.specs.Sound.{Sound}
 use Rattle.table.specs.Facts.{UsedOk, record-used, used-record, record-free, zero-record}
-use Rattle.table.specs.Replaced.{Hosts, objects-replaced, hosts-none, spaceAt-set-other, spaceAt-set-same}
+use Rattle.table.specs.Replaced.{Hosts, objects-replaced, hosts-none, none-attached, objectAt-place, spaceAt-set-other, spaceAt-set-same}
 use Rattle.table.specs.Moved.{used-replaced, Quiet, quiet-reserved, quiet-fits}
 use Rattle.table.specs.Cleared.{release, release-true, release-false, release-once, release-agree}
 use Rattle.table.specs.Charged.{release-charge}
-use Rattle.edits.specs.Edits.{putObject, dropSpace}
+use Rattle.edits.specs.declared.Edit.{Edit}
+use Rattle.edits.specs.Edits.{refuse, settle, placed, putObject, dropSpace, applied}
 
 -- a released object keeps the rules of objects
 pub free-ok : (os : List Object) → objectOk os freeObject ≡ true
@@ -112,3 +116,40 @@ drop-sound t i g h alone =
   where
     less : charge (map (release (ofSpace (i + 1))) (t .mappings)) ≤ t .limit
     less = charge-less t (ofSpace (i + 1)) g
+
+-- the result of settling: a refusal leaves the table as it is
+pub settle-sound : (t : Table) (n : ℕ) (e : Edit) → Sound t → (n ≡ 0 → Sound (applied t e)) → Sound (applied t (settle n e))
+unfolding applied
+settle-sound t zero e g h = h refl
+settle-sound t (suc n) e g h = g
+
+-- ---- a new object in the lowest free record
+
+-- the lowest free record lies in the table and is no space
+free-place : (os : List Object) (i : ℕ) → freeRecord os ≡ some i → (i < ListN.length os) × (spaceAt os (suc i) ≡ false)
+unfolding freeRecord spaceAt
+free-place os i e =
+    let lt = seek-some-lt (λ (o : Object). isFree (o .kind)) 0 os i e in
+    let z : i ≡ 0 + i = omega arith in
+    let at = seek-some-at (λ (o : Object). isFree (o .kind)) 0 os freeObject i (e ∙ ap some z) in
+    let h : i < ListN.length os = omega (arith, lt .1) in
+    (h, ap (λ (o : Object). isSpace (o .kind)) (objectAt-place os i freeObject h) ∙ free-no-space (getD os i freeObject .kind) at)
+  where
+    free-no-space : (k : Kind) → isFree k ≡ true → isSpace k ≡ false
+    free-no-space Free e = refl
+    free-no-space Space e = contrary false e refl
+    free-no-space (Device a) e = refl
+
+-- an object that is attached to nothing and keeps the rules of objects by itself can be placed
+pub placed-sound : (t : Table) (n : Object) → Sound t → Quiet n → ((os : List Object) → objectOk os n ≡ true) → Sound (applied t (placed (freeRecord (t .objects)) n))
+unfolding applied
+placed-sound t n g q ok = go (freeRecord (t .objects)) refl
+  where
+    go : (o : Option ℕ) → freeRecord (t .objects) ≡ o → Sound (applied t (placed o n))
+    go none e = g
+    go (some i) e =
+        let p = free-place (t .objects) i e in
+        put-sound t i n g (omega (arith, p .0, g .places))
+        (hosts-none (t .objects) i n (none-attached (t .objects) (suc i) (g .objects) (p .1)))
+        (ok (set (t .objects) i n))
+        (Each-of _ (t .mappings) (λ m u k. quiet-bears (t .objects) i n m q (elsewhere (t .objects) i n m (p .1) k)))

@@ -10,7 +10,7 @@ use lib.ListN.{length, getD, set, length-set, List·getD-eq-default}
 use lib.Seq.{getD-set-same, getD-set-other}
 use borrow.Author.Tests.{leb-true, leb-false, eqb-true, eqb-false, eq-eqb, not-true, not-false}
 use Rattle.lists.specs.Tests.{by-test, contrary, and-left, and-right, and-both}
-use Rattle.lists.specs.Search.{any, all, any-place, any-none, any-false-at}
+use Rattle.lists.specs.Search.{any, all, all-at, any-place}
 use Rattle.lists.specs.Each.{Each, Each-imp, Each-set, Each-at, Each-zip, Each-all, all-Each, Each-any-false}
 use Rattle.ranges.specs.declared.Range.{Range}
 use Rattle.ranges.specs.Ranges.{share}
@@ -114,6 +114,11 @@ attached-by os o (Device (Attached h)) s e f =
 pub object-attached : (os : List Object) (o : Object) (s : ℕ) → objectOk os o ≡ true → attachedTo s (o .kind) ≡ true → (spaceAt os s ≡ true) × (listsTouch (reserved (o .reserved)) (allowed (objectAt os s .allow)) ≡ false)
 unfolding objectOk deviceNames deviceValid listValid listClear objectZero
 object-attached os o s e f = attached-by os o (o .kind) s e f
+
+-- the object at a place keeps the rules
+pub object-at-ok : (os : List Object) (i : ℕ) → i < length os → objectsOk os ≡ true → objectOk os (objectAt os (suc i)) ≡ true
+unfolding objectsOk
+object-at-ok os i h e = rw (objectAt-place os i freeObject h) (all-at (objectOk os) os freeObject e i h)
 
 -- ---- the rule of all objects after a store
 

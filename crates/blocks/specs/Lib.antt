@@ -1,0 +1,2 @@
+-- The reserved ranges of all attached devices, by space.
+pub mod Blocked

@@ -1,0 +1,41 @@
+-- IOVA_RANGES: reserved field 95; no space 2; range area shorter than 16 times count 14. The list is what is not reserved, as the fewest ranges,
+-- ascending. Count becomes the full number and alignment is written; as many ranges as count allowed are written; 90 if some had no room.
+use Prim.Native.Nat.{ℕ, zero, suc, _+_, _*_, _≤_, _<_}
+use mathlib.Core.Bool.{Bool, true, false, not, cond}
+use mathlib.Core.List.{List, [], _∷_}
+use lib.Dec.{ltb, eqb}
+use lib.ListN.{length, take}
+use Rattle.lists.specs.Checks.{Check, when, first}
+use Rattle.ranges.specs.declared.Range.{Range}
+use Rattle.wire.specs.Fields.{field, put}
+use Rattle.freeranges.specs.Free.{freeRanges}
+use Rattle.freeranges.specs.Written.{putRanges}
+use Rattle.table.specs.declared.Object.{Object}
+use Rattle.table.specs.Records.{spaceAt}
+use Rattle.table.specs.Spaces.{alignment, reservedOf}
+
+-- what a space may use: all that no attached device reserves
+unfoldable pub freeOf : List Object → ℕ → List Range
+freeOf os s = freeRanges (reservedOf os s)
+
+unfoldable pub rangesChecks : List Object → ℕ → ℕ → ℕ → List ℕ → List (Check ℕ)
+rangesChecks os space count mustBeZero area =
+    when (not (eqb mustBeZero 0)) 95
+    ∷ when (not (spaceAt os space)) 2
+    ∷ when (ltb (length area) (16 * count)) 14
+    ∷ []
+
+-- 0 and 90 write the reply, the others write nothing
+unfoldable pub rangesErrno : List Object → ℕ → ℕ → ℕ → List ℕ → ℕ
+rangesErrno os space count mustBeZero area =
+    first (rangesChecks os space count mustBeZero area) (cond (ltb count (length (freeOf os space))) 90 0)
+
+abbrev pub repliesTo : ℕ → Bool
+repliesTo n = cond (eqb n 0) true (eqb n 90)
+
+-- the command's count and alignment fields, and the ranges that had room
+unfoldable pub rangesBytes : List Object → ℕ → List ℕ → List ℕ
+rangesBytes os space bytes = put 8 (put 4 bytes 8 (length (freeOf os space))) 24 (alignment os space)
+
+unfoldable pub rangesArea : List Object → ℕ → ℕ → List ℕ → List ℕ
+rangesArea os space count area = putRanges 0 (take count (freeOf os space)) area

@@ -1,0 +1,1 @@
+// What the commands on spaces decide over a good table.
