@@ -125,20 +125,25 @@ settle-sound t (suc n) e g h = g
 
 -- ---- a new object in the lowest free record
 
--- the lowest free record lies in the table and is no space
-free-place : (os : List Object) (i : ℕ) → freeRecord os ≡ some i → (i < ListN.length os) × (spaceAt os (suc i) ≡ false)
+-- the lowest free record lies in the table, is no space and is attached to none
+pub free-place : (os : List Object) (i : ℕ) → freeRecord os ≡ some i → (i < ListN.length os) × (spaceAt os (suc i) ≡ false) × ((s : ℕ) → attachedTo s (getD os i freeObject .kind) ≡ false)
 unfolding freeRecord spaceAt
 free-place os i e =
     let lt = seek-some-lt (λ (o : Object). isFree (o .kind)) 0 os i e in
     let z : i ≡ 0 + i = omega arith in
     let at = seek-some-at (λ (o : Object). isFree (o .kind)) 0 os freeObject i (e ∙ ap some z) in
     let h : i < ListN.length os = omega (arith, lt .1) in
-    (h, ap (λ (o : Object). isSpace (o .kind)) (objectAt-place os i freeObject h) ∙ free-no-space (getD os i freeObject .kind) at)
+    (h, ap (λ (o : Object). isSpace (o .kind)) (objectAt-place os i freeObject h) ∙ free-no-space (getD os i freeObject .kind) at, λ s. free-no-device s (getD os i freeObject .kind) at)
   where
     free-no-space : (k : Kind) → isFree k ≡ true → isSpace k ≡ false
     free-no-space Free e = refl
     free-no-space Space e = contrary false e refl
     free-no-space (Device a) e = refl
+
+    free-no-device : (s : ℕ) (k : Kind) → isFree k ≡ true → attachedTo s k ≡ false
+    free-no-device s Free e = refl
+    free-no-device s Space e = refl
+    free-no-device s (Device a) e = contrary false e refl
 
 -- an object that is attached to nothing and keeps the rules of objects by itself can be placed
 pub placed-sound : (t : Table) (n : Object) → Sound t → Quiet n → ((os : List Object) → objectOk os n ≡ true) → Sound (applied t (placed (freeRecord (t .objects)) n))

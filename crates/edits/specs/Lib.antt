@@ -2,3 +2,4 @@
 pub mod Edits
 pub mod Answers
 pub mod Kept
+pub mod Untouched

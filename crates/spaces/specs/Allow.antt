@@ -2,42 +2,61 @@
 -- a range that touches reserved: 98. The list is replaced, in the order given; count 0 empties it.
 use Prim.Native.Nat.{ℕ, zero, suc, _+_, _-_, _*_, _≤_, _<_}
 use mathlib.Core.Bool.{Bool, true, false, not, _||_, cond}
-use mathlib.Core.List.{List, [], _∷_}
+use mathlib.Core.List.{List, [], _∷_, _++_}
 use lib.Dec.{ltb, eqb}
 use lib.ListN.{length}
+use Rattle.lists.specs.Search.{any}
 use Rattle.lists.specs.Checks.{Check, when, first}
+use Rattle.ranges.specs.declared.Range.{Range}
+use Rattle.ranges.specs.Ranges.{share}
 use Rattle.rangelists.specs.declared.Allowed.{Allowed}
 use Rattle.rangelists.specs.Listed.{allowed, valid, overlap}
 use Rattle.wire.specs.Fields.{field}
 use Rattle.table.specs.declared.Object.{Object}
 use Rattle.table.specs.Records.{objectAt, spaceAt}
-use Rattle.table.specs.Spaces.{reservedOf}
+use Rattle.table.specs.Spaces.{reservedFor, reservedOf}
 use Rattle.table.specs.Good.{listsTouch}
 use Rattle.edits.specs.declared.Change.the-variants.{Put}
 use Rattle.edits.specs.declared.Edit.{Edit}
 use Rattle.edits.specs.Edits.{settle, accept}
 
--- one number of each of the first n ranges of the area, from range k on; zero in the places after them. A range has 16 bytes: start, last
+-- a number of range k of the area, and 0 from range n on. A range has 16 bytes: its start at offset 0, its last at offset 8
+unfoldable pub numberAt : ℕ → ℕ → ℕ → List ℕ → ℕ
+numberAt off n k area = cond (ltb k n) (field 8 area (16 * k + off)) 0
+
+-- such a number of each range from k on, for so many places
 unfoldable pub column : ℕ → ℕ → ℕ → ℕ → List ℕ → List ℕ
 column off n k zero area = []
-column off n k (suc room) area = cond (ltb k n) (field 8 area (16 * k + off)) 0 ∷ column off n (k + 1) room area
+column off n k (suc room) area = numberAt off n k area ∷ column off n (k + 1) room area
 
 -- the list of the first count ranges of the area
 unfoldable pub areaList : ℕ → List ℕ → Allowed
 areaList count area = record { count = count; starts = column 0 count 0 8 area; lasts = column 8 count 0 8 area }
 
+-- a device attached to the space with a range that touches the list
+unfoldable pub touchesList : ℕ → List Range → Object → Bool
+touchesList s qs o = any (λ r. any (share r) qs) (reservedFor s o)
+
 unfoldable pub withAllow : Object → Allowed → Object
 withAllow o l = record { kind = o .kind; bitmap = o .bitmap; reserved = o .reserved; allow = l }
 
-unfoldable pub allowChecks : List Object → ℕ → ℕ → ℕ → List ℕ → List (Check ℕ)
-allowChecks os space count mustBeZero area =
+-- the checks on the numbers alone, then those on the list
+unfoldable pub numberChecks : List Object → ℕ → ℕ → ℕ → ℕ → List (Check ℕ)
+numberChecks os space count mustBeZero room =
     when (not (eqb mustBeZero 0)) 95
     ∷ when (not (spaceAt os space)) 2
     ∷ when (ltb 8 count) 12
-    ∷ when (ltb (length area) (16 * count)) 14
-    ∷ when (not (valid (allowed (areaList count area))) || overlap (allowed (areaList count area))) 22
-    ∷ when (listsTouch (reservedOf os space) (allowed (areaList count area))) 98
+    ∷ when (ltb room (16 * count)) 14
     ∷ []
+
+unfoldable pub listChecks : List Object → ℕ → Allowed → List (Check ℕ)
+listChecks os space l =
+    when (not (valid (allowed l)) || overlap (allowed l)) 22
+    ∷ when (listsTouch (reservedOf os space) (allowed l)) 98
+    ∷ []
+
+unfoldable pub allowChecks : List Object → ℕ → ℕ → ℕ → List ℕ → List (Check ℕ)
+allowChecks os space count mustBeZero area = numberChecks os space count mustBeZero (length area) ++ listChecks os space (areaList count area)
 
 unfoldable pub allowEdit : List Object → ℕ → ℕ → ℕ → List ℕ → Edit
 allowEdit os space count mustBeZero area =

@@ -38,7 +38,7 @@ use Rattle.edits.specs.declared.Edit.{Edit}
 use Rattle.edits.specs.Edits.{refuse, accept, settle, placed, putObject, dropSpace, applied}
 use Rattle.edits.specs.Kept.{Bears, AllBorne, put-sound, drop-sound, free-ok, quiet-bears, elsewhere, settle-sound, placed-sound}
 use Rattle.spaces.specs.Objects.{allocChecks, allocEdit, inUse, destroyChecks, removal, destroyEdit}
-use Rattle.spaces.specs.Allow.{column, areaList, withAllow, allowChecks, allowEdit}
+use Rattle.spaces.specs.Allow.{numberAt, column, areaList, withAllow, numberChecks, listChecks, allowChecks, allowEdit}
 
 -- ---- IOAS_ALLOC
 
@@ -109,29 +109,29 @@ destroy-sound t id g =
 
 module _ (os : List Object) (s count z : ℕ) (area : List ℕ) (e : first (allowChecks os s count z area) 0 ≡ 0) where
   allow-passed : (i : ℕ) → i < 6 → getD (allowChecks os s count z area) i (when false 0) .fires ≡ false
-  unfolding allowChecks
+  unfolding allowChecks numberChecks listChecks
   allow-passed i h =
       passed (allowChecks os s count z area) 0 (when false 0)
       (λ y. omega (arith, y), (λ y. omega (arith, y), (λ y. omega (arith, y), (λ y. omega (arith, y), (λ y. omega (arith, y), (λ y. omega (arith, y), tt)))))) e i h
 
   allow-space : spaceAt os s ≡ true
-  unfolding allowChecks
+  unfolding allowChecks numberChecks listChecks
   allow-space = not-false (spaceAt os s) (allow-passed 1 (omega arith))
 
   allow-count : count ≤ 8
-  unfolding allowChecks
+  unfolding allowChecks numberChecks listChecks
   allow-count = ltb-false 8 count (allow-passed 2 (omega arith))
 
   allow-valid : valid (allowed (areaList count area)) ≡ true
-  unfolding allowChecks
+  unfolding allowChecks numberChecks listChecks
   allow-valid = not-false (valid (allowed (areaList count area))) (or-not-left (not (valid (allowed (areaList count area)))) (overlap (allowed (areaList count area))) (allow-passed 4 (omega arith)))
 
   allow-apart : overlap (allowed (areaList count area)) ≡ false
-  unfolding allowChecks
+  unfolding allowChecks numberChecks listChecks
   allow-apart = or-not-right (not (valid (allowed (areaList count area)))) (overlap (allowed (areaList count area))) (allow-passed 4 (omega arith))
 
   allow-clear : listsTouch (reservedOf os s) (allowed (areaList count area)) ≡ false
-  unfolding allowChecks
+  unfolding allowChecks numberChecks listChecks
   allow-clear = allow-passed 5 (omega arith)
 
 -- the places beyond the count are zero
@@ -153,10 +153,10 @@ zeros-drop x xs n m false e h k =
     rw p k
 
 column-rest : (off n k room : ℕ) (area : List ℕ) → zeros (drop (n - k) (column off n k room area)) ≡ true
-unfolding column
+unfolding column numberAt
 column-rest off n k zero area = drop-zeros (n - k)
 column-rest off n k (suc room) area =
-    zeros-drop (cond (ltb k n) (field 8 area (16 * k + off)) 0) (column off n (k + 1) room area) n k (leb n k) refl
+    zeros-drop (numberAt off n k area) (column off n (k + 1) room area) n k (leb n k) refl
     (λ e. ap (λ (b : Bool). cond b (field 8 area (16 * k + off)) 0) (le-ltb k n (leb-true n k e))) (column-rest off n (k + 1) room area)
 
 column-zero : (off n : ℕ) (area : List ℕ) → n ≤ 8 → zeros (drop (min n 8) (column off n 0 8 area)) ≡ true

@@ -1,0 +1,2 @@
+-- Laws for the calls that decide an edit.
+pub mod Settled

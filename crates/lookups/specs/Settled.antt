@@ -1,0 +1,41 @@
+-- Checks one by one, and an edit after them: a refusal where one fired, else what the call changes.
+use Prim.Native.Nat.{ℕ, zero, suc, _≤_}
+use mathlib.Core.Path.{_≡_, refl, sym, ap, _∙_}
+use mathlib.Core.Bool.{Bool, true, false}
+use mathlib.Core.List.{List, [], _∷_}
+use native.Mathlib.Omega.{arith}
+use Rattle.lists.specs.Tests.{contrary}
+use Rattle.lists.specs.Checks.{Check, when, first, first-append}
+use Rattle.table.specs.declared.Object.{Object}
+use Rattle.table.specs.Records.{isDevice, isSpace, objectAt}
+use Rattle.edits.specs.declared.Edit.{Edit}
+use Rattle.edits.specs.Edits.{refuse, settle}
+
+-- a check by itself, and the checks after it, are one list of checks. b is what the code found of it
+pub checked : (b c : Bool) (n r rest ok : ℕ) (cs : List (Check ℕ)) → r ≡ first (when b n ∷ []) rest → b ≡ c → rest ≡ first cs ok → r ≡ first (when c n ∷ cs) ok
+checked b c n r rest ok cs e f g =
+    e ∙ ap (λ (x : ℕ). first (when b n ∷ []) x) g ∙ ap (λ (x : Bool). first (when x n ∷ []) (first cs ok)) f ∙ sym (first-append (when c n ∷ []) cs ok)
+
+pub checked-last : (b c : Bool) (n r ok : ℕ) → r ≡ first (when b n ∷ []) ok → b ≡ c → r ≡ first (when c n ∷ []) ok
+checked-last b c n r ok e f = e ∙ ap (λ (x : Bool). first (when x n ∷ []) ok) f
+
+-- ---- the edit
+
+pub settle-refused : (n m : ℕ) (r e : Edit) → n ≡ m → (n ≡ 0 → ⊥) → r ≡ refuse n → r ≡ settle m e
+settle-refused n zero r e s h k = absurd (h s)
+settle-refused n (suc m) r e s h k = k ∙ ap refuse s
+
+pub settle-taken : (n m : ℕ) (r e : Edit) → n ≡ m → n ≡ 0 → r ≡ e → r ≡ settle m e
+settle-taken n zero r e s h k = k
+settle-taken n (suc m) r e s h k = absurd (omega arith)
+
+-- an object that is no released one has an id from 1 on
+pub device-id : (os : List Object) (id : ℕ) → isDevice (objectAt os id .kind) ≡ true → 1 ≤ id
+unfolding objectAt
+device-id os zero e = contrary false e refl
+device-id os (suc i) e = omega arith
+
+pub space-id : (os : List Object) (id : ℕ) → isSpace (objectAt os id .kind) ≡ true → 1 ≤ id
+unfolding objectAt
+space-id os zero e = contrary false e refl
+space-id os (suc i) e = omega arith

@@ -1,0 +1,5 @@
+pub mod Bits
+pub mod Choosing
+pub mod Touching
+pub mod Comparing
+pub mod Marking

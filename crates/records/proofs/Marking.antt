@@ -1,0 +1,170 @@
+-- The pass over the records that marks the first record of each backing.
+use Prim.Native.Nat.{ℕ, _+_, _-_, _*_, _≤_, _<_, _^_, min}
+use mathlib.Core.Path.{_≡_, refl, sym, ap, _∙_}
+use mathlib.Core.Bool.{Bool, true, false, not, cond}
+use mathlib.Core.List.{List, [], _∷_, _++_}
+use mathlib.Core.Option.{Option, none, some}
+use native.Mathlib.Omega.{arith}
+use lib.Dec.{eqb}
+use lib.ListN.{length, getD, take, set, replicate, length-take, length-set, length-replicate, getD-replicate}
+use lib.Seq.{getD-take, getD-set-same, getD-set-other, take-all}
+use borrow.Author.Tests.{eqb-true, eqb-false, ne-eqb}
+use Rattle.lists.specs.Tests.{by-test, contrary, or-neither}
+use Rattle.lists.specs.Search.{any, all, all-at, seek, seek-none, seek-any-false, seek-some-lt, seek-cons-true}
+use Rattle.lists.specs.Pairs.{clashes, clashes-nil}
+use Rattle.table.specs.declared.Mapping.{Mapping}
+use Rattle.table.specs.Records.{zeroMapping}
+use Rattle.table.specs.Charge.{backs, charge}
+use Rattle.table.specs.Good.{differ, backingsAgree}
+use Rattle.records.specs.Alone.{numbered, numbered-most}
+use Rattle.records.specs.Ends.{take-turn, all-take, seek-append-some, seek-append-none, seek-append-other, clashes-append, clashes-at}
+use Rattle.records.specs.Charging.{differ-self, backs-of, agree-first, agree-none, charge-nil, charge-append, chargedOf, leaderPlace, markAfter, addedBy}
+use Rattle.records.specs.declared.Charged.the-variants.{Disagree, Sum}
+
+-- the mark of a backing: one more than the place of its first record
+abbrev pub markOf : Option ℕ → ℕ
+markOf none = 0
+markOf (some k) = k + 1
+
+-- one more record of a backing has the mark that stands, or the first
+mark-own : (p : Mapping → Bool) (xs : List Mapping) (a : Mapping) → p a ≡ true → markAfter (markOf (seek p 0 xs)) (length xs) ≡ markOf (seek p 0 (xs ++ a ∷ []))
+unfolding markAfter
+mark-own p xs a e = go (seek p 0 xs) refl
+  where
+    go : (o : Option ℕ) → seek p 0 xs ≡ o → markAfter (markOf (seek p 0 xs)) (length xs) ≡ markOf (seek p 0 (xs ++ a ∷ []))
+    go none f = rw (f, seek-append-none p 0 xs (a ∷ []) (seek-none p 0 xs f), seek-cons-true p (0 + length xs) a [] e) (omega arith)
+    go (some k) f = rw (f, seek-append-some p 0 xs (a ∷ []) k f, ne-eqb (k + 1) 0 (λ z. omega (arith, z)))
+
+-- after i records: the marks of the backings, the pages of those that have one, and that no two records differ
+pub record Seen (ms : List Mapping) (i sum : ℕ) (marks : List ℕ) : Type 0 where
+  pub many : length ms ≡ 128
+  pub upto : i ≤ 128
+  pub room : length marks ≡ 129
+  pub marked : (b : ℕ) → b ≤ 128 → getD marks b 0 ≡ markOf (seek (backs b) 0 (take i ms))
+  pub agree : clashes differ (take i ms) ≡ false
+  pub total : sum ≡ charge (take i ms)
+  pub small : sum ≤ i * 2 ^ 53
+
+pub seen-start : (ms : List Mapping) → length ms ≡ 128 → Seen ms 0 0 (replicate 129 0)
+unfolding seek
+seen-start ms h = record {
+  many = h;
+  upto = omega arith;
+  room = length-replicate {A = ℕ} 129 0;
+  marked = λ b l. getD-replicate {A = ℕ} 129 b 0 0 (omega arith);
+  agree = clashes-nil differ;
+  total = sym charge-nil;
+  small = omega arith;
+}
+
+pub seen-end : (ms : List Mapping) (i sum : ℕ) (marks : List ℕ) → Seen ms i sum marks → 128 ≤ i → Sum sum ≡ chargedOf ms
+unfolding chargedOf backingsAgree
+seen-end ms i sum marks s h =
+    let e : take i ms ≡ ms = take-all i ms (omega (arith, s .many)) in
+    rw (sym (ap (clashes differ) e) ∙ s .agree) (ap Sum (s .total ∙ ap charge e))
+
+-- the record at place i, the mark of its backing, and the first record that has it
+abbrev pub here : List Mapping → ℕ → Mapping
+here ms i = getD ms i zeroMapping
+
+abbrev pub markHere : List Mapping → List ℕ → ℕ → ℕ
+markHere ms marks i = getD marks (here ms i .backing) 0
+
+abbrev pub leader : List Mapping → List ℕ → ℕ → Mapping
+leader ms marks i = getD ms (leaderPlace (markHere ms marks i) i) zeroMapping
+
+-- one turn
+module _ (ms : List Mapping) (i sum : ℕ) (marks : List ℕ) (num : all numbered ms ≡ true) (s : Seen ms i sum marks) (h : i < 128) where
+  numbered-at : numbered (here ms i) ≡ true
+  numbered-at = all-at numbered ms zeroMapping num i (omega (arith, s .many))
+
+  pub backing-most : here ms i .backing ≤ 128
+  backing-most = numbered-most (here ms i) numbered-at
+
+  seen-mark : markHere ms marks i ≡ markOf (seek (backs (here ms i .backing)) 0 (take i ms))
+  seen-mark = s .marked (here ms i .backing) backing-most
+
+  length-seen : length (take i ms) ≡ i
+  length-seen = length-take i ms ∙ (let e : min i (length ms) ≡ i = omega (arith, s .many) in e)
+
+  -- the first record of the backing is among those seen, or is this one
+  pub leader-most : leaderPlace (markHere ms marks i) i ≤ i
+  unfolding leaderPlace
+  leader-most = rw seen-mark (go (seek (backs (here ms i .backing)) 0 (take i ms)) refl)
+    where
+      go : (o : Option ℕ) → seek (backs (here ms i .backing)) 0 (take i ms) ≡ o → cond (eqb (markOf o) 0) i (markOf o - 1) ≤ i
+      go none e = omega arith
+      go (some k) e = rw (ne-eqb (k + 1) 0 (λ z. omega (arith, z))) (omega (arith, seek-some-lt (backs (here ms i .backing)) 0 (take i ms) k e .1, length-seen))
+
+  -- what was asked of the record at place k, in the words of the definition
+  asked : (k : ℕ) (r t : Bool) → k ≡ leaderPlace (markHere ms marks i) i → r ≡ differ (getD ms k zeroMapping) (here ms i) → r ≡ t → differ (leader ms marks i) (here ms i) ≡ t
+  asked k r t e f g = ap (λ (n : ℕ). differ (getD ms n zeroMapping) (here ms i)) (sym e) ∙ sym f ∙ g
+
+  pub seen-differ : (k : ℕ) (r : Bool) → k ≡ leaderPlace (markHere ms marks i) i → r ≡ differ (getD ms k zeroMapping) (here ms i) → r ≡ true → Disagree ≡ chargedOf ms
+  unfolding chargedOf backingsAgree
+  seen-differ k r e f g =
+      by-test (eqb (leaderPlace (markHere ms marks i) i) i)
+      (λ t. contrary (differ (here ms i) (here ms i)) (sym (ap (λ (n : ℕ). differ (getD ms n zeroMapping) (here ms i)) (eqb-true (leaderPlace (markHere ms marks i) i) i t)) ∙ asked k r true e f g) (differ-self (here ms i)))
+      (λ t. rw (clashes-at differ ms zeroMapping (leaderPlace (markHere ms marks i) i) i (omega (arith, leader-most, eqb-false (leaderPlace (markHere ms marks i) i) i t)) (omega (arith, s .many)) (asked k r true e f g)))
+
+  -- no mark: no record seen has the backing
+  mark-none : eqb (markHere ms marks i) 0 ≡ not (any (backs (here ms i .backing)) (take i ms))
+  mark-none = rw seen-mark (go (seek (backs (here ms i .backing)) 0 (take i ms)) refl)
+    where
+      go : (o : Option ℕ) → seek (backs (here ms i .backing)) 0 (take i ms) ≡ o → eqb (markOf o) 0 ≡ not (any (backs (here ms i .backing)) (take i ms))
+      go none e = rw (seek-none (backs (here ms i .backing)) 0 (take i ms) e)
+      go (some k) e =
+          by-test (any (backs (here ms i .backing)) (take i ms))
+          (λ t. rw t (ne-eqb (k + 1) 0 (λ z. omega (arith, z))))
+          (λ t. let f = seek-any-false (backs (here ms i .backing)) 0 (take i ms) t in let z : _≡_ {A = ℕ} 0 1 = cc in absurd (omega arith))
+
+  none-differ : differ (leader ms marks i) (here ms i) ≡ false → any (λ y. differ y (here ms i)) (take i ms) ≡ false
+  unfolding leaderPlace
+  none-differ d = go (seek (backs (here ms i .backing)) 0 (take i ms)) refl (sym (rw seen-mark) ∙ d)
+    where
+      go : (o : Option ℕ) → seek (backs (here ms i .backing)) 0 (take i ms) ≡ o → differ (getD ms (cond (eqb (markOf (seek (backs (here ms i .backing)) 0 (take i ms))) 0) i (markOf (seek (backs (here ms i .backing)) 0 (take i ms)) - 1)) zeroMapping) (here ms i) ≡ false → any (λ y. differ y (here ms i)) (take i ms) ≡ false
+      go none e f = agree-none (take i ms) (here ms i) (seek-none (backs (here ms i .backing)) 0 (take i ms) e)
+      go (some k) e f =
+          let l : k < i = omega (arith, seek-some-lt (backs (here ms i .backing)) 0 (take i ms) k e .1, length-seen) in
+          let z : k + 1 - 1 ≡ k = omega arith in
+          agree-first (take i ms) (all-take numbered i ms num) (here ms i) k (s .agree) e
+          (rw (getD-take i ms k zeroMapping l) (sym (rw (e, ne-eqb (k + 1) 0 (λ q. omega (arith, q)), z)) ∙ f))
+
+  turn : take (i + 1) ms ≡ take i ms ++ here ms i ∷ []
+  turn = take-turn ms zeroMapping i (omega (arith, s .many))
+
+  -- the marks with one more record
+  marks-on : (next : ℕ) → next ≡ markAfter (markHere ms marks i) i → (b : ℕ) → b ≤ 128
+      → getD (set marks (here ms i .backing) next) b 0 ≡ markOf (seek (backs b) 0 (take (i + 1) ms))
+  unfolding backs
+  marks-on next e b l =
+      by-test (eqb (here ms i .backing) b)
+      (λ t. let q : here ms i .backing ≡ b = eqb-true (here ms i .backing) b t in rw (← q) own)
+      (λ t. rw turn
+      (getD-set-other marks (here ms i .backing) b next 0 (λ q. eqb-false (here ms i .backing) b t (sym q))
+      ∙ s .marked b l
+      ∙ ap markOf (sym (seek-append-other (backs b) 0 (take i ms) (here ms i) t))))
+    where
+      own : getD (set marks (here ms i .backing) next) (here ms i .backing) 0 ≡ markOf (seek (backs (here ms i .backing)) 0 (take (i + 1) ms))
+      own =
+          rw turn
+          (getD-set-same marks (here ms i .backing) next 0 (omega (arith, s .room, backing-most))
+          ∙ e
+          ∙ ap (λ (n : ℕ). markAfter n i) seen-mark
+          ∙ ap (markAfter (markOf (seek (backs (here ms i .backing)) 0 (take i ms)))) (sym length-seen)
+          ∙ mark-own (backs (here ms i .backing)) (take i ms) (here ms i) (backs-of (here ms i .backing) (here ms i) refl))
+
+  pub seen-on : (k next added : ℕ) (r : Bool) → k ≡ leaderPlace (markHere ms marks i) i → r ≡ differ (getD ms k zeroMapping) (here ms i) → r ≡ false
+      → added ≡ addedBy (markHere ms marks i) (here ms i) → added ≤ 2 ^ 53
+      → next ≡ markAfter (markHere ms marks i) i
+      → Seen ms (i + 1) (sum + added) (set marks (here ms i .backing) next)
+  unfolding addedBy
+  seen-on k next added r p q d e f g = record {
+    many = s .many;
+    upto = omega arith;
+    room = length-set marks (here ms i .backing) next ∙ s .room;
+    marked = marks-on next g;
+    agree = rw (turn, clashes-append differ (take i ms) (here ms i)) (or-neither (clashes differ (take i ms)) (any (λ y. differ y (here ms i)) (take i ms)) (s .agree) (none-differ (asked k r false p q d)));
+    total = rw (turn, charge-append (take i ms) (here ms i) numbered-at, ← mark-none, ← e, ← s .total);
+    small = omega (arith, s .small);
+  }

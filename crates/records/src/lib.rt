@@ -1,0 +1,266 @@
+// The mapping records of a table, checked: each by itself, each backing, and each pair.
+// Every function takes the array once; its loops hand on elements and numbers only.
+ghost use mathlib.Core.Path.{_≡_};
+ghost use mathlib.Core.Bool.{true, _&&_, _||_};
+ghost use Prim.Native.Nat.{_+_, _≤_, _<_, _^_, min};
+ghost use lib.ListN.{getD};
+ghost use Rattle.lists.specs.Search.{all};
+ghost use Rattle.lists.specs.Pairs.{clashes};
+ghost use Rattle.ranges.specs.Ranges.{range, lastOf};
+ghost use Rattle.command.specs.Flags.{bit};
+ghost use Rattle.table.specs.Records.{touches};
+ghost use Rattle.table.specs.Good.{together, lengthFits, rightsFit, endsFit, differ};
+ghost use Rattle.table.specs.Checked.{recordAlone};
+ghost use Rattle.records.specs.Alone.{zeroFields, founded, isNumber, sound, numbered, pageRead};
+ghost use Rattle.records.specs.Pairing.{startAfter};
+ghost use Rattle.records.specs.Charging.{chargedOf, leaderPlace, markAfter, addedBy};
+use table::Mapping;
+
+// What the backings of the records come to.
+pub enum Charged {
+    Disagree,
+    Sum(u64),
+}
+
+fn both(a: bool, b: bool) -> bool
+    ensures { λ r. ⌜ r ≡ (a && b) ⌝ }
+{
+    if a { b } else { false }
+}
+
+fn either(a: bool, b: bool) -> bool
+    ensures { λ r. ⌜ r ≡ (a || b) ⌝ }
+{
+    if a { true } else { b }
+}
+
+// ---- each record by itself
+
+fn length_fits(m: Mapping) -> bool
+    ensures { λ b. ⌜ b ≡ lengthFits m ⌝ }
+{
+    both(0 < m.length, m.length <= 0x100_0000_0000)
+}
+
+fn rights_fit(m: Mapping) -> bool
+    ensures { λ b. ⌜ b ≡ rightsFit m ⌝ }
+{
+    both(0 < m.rights, m.rights <= 3)
+}
+
+// Neither the addresses nor the memory pass U64MAX.
+fn ends_fit(m: Mapping) -> bool
+    ensures { λ b. ⌜ b ≡ endsFit m ⌝ }
+{
+    both(
+        !ranges::passes_max(m.address, m.length),
+        !ranges::passes_max(m.memory, m.length),
+    )
+}
+
+fn can_write(rights: u32) -> bool
+    ensures { λ b. ⌜ b ≡ bit 0 rights ⌝ }
+{
+    rights & 1 == 1
+}
+
+// A mapping that writes has a writeable founder.
+fn is_founded(m: Mapping) -> bool
+    ensures { λ b. ⌜ b ≡ founded m ⌝ }
+{
+    both(m.founder <= 1, either(!can_write(m.rights), m.founder == 1))
+}
+
+fn is_number(backing: u32) -> bool
+    ensures { λ b. ⌜ b ≡ isNumber backing ⌝ }
+{
+    both(1 <= backing, backing <= 128)
+}
+
+// A released record holds nothing.
+fn is_zero(m: Mapping) -> bool
+    ensures { λ b. ⌜ b ≡ zeroFields m ⌝ }
+{
+    both(
+        m.rights == 0,
+        both(
+            m.founder == 0,
+            both(
+                m.backing == 0,
+                both(m.address == 0, both(m.length == 0, m.memory == 0)),
+            ),
+        ),
+    )
+}
+
+// The rules of a record in use, given the alignment of its space.
+fn is_sound(page: u64, m: Mapping) -> bool
+    ensures { λ b. ⌜ b ≡ sound page m ⌝ }
+{
+    let fit = alignment::is_fit(page, m.address, m.length);
+    let rest = both(fit, both(is_founded(m), is_number(m.backing)));
+    both(
+        page != 0,
+        both(length_fits(m), both(rights_fit(m), both(ends_fit(m), rest))),
+    )
+}
+
+fn record_alone(page: u64, m: Mapping) -> bool
+    ensures { λ b. ⌜ b ≡ recordAlone page m ⌝ }
+{
+    if m.space == 0 {
+        return is_zero(m);
+    }
+    is_sound(page, m)
+}
+
+// Where the page of a space is read, and 0 for the page of an id above 32.
+fn page_place(space: u32) -> usize
+    ensures { λ k. ⌜ k ≡ min space 32 ⌝ }
+{
+    if space < 32 { space as usize } else { 32 }
+}
+
+fn page_if(space: u32, page: u64) -> u64
+    ensures { λ r. ⌜ r ≡ pageRead space page ⌝ }
+{
+    if space <= 32 { page } else { 0 }
+}
+
+// Whether each record keeps the rules of one record. Place s of `pages` has the alignment of space s, and 0 where s is no space.
+pub fn records_alone(pages: [u64; 33], ms: [Mapping; 128]) -> bool
+    ensures { λ b. ⌜ b ≡ all (λ m. recordAlone (getD pages (m .space) 0) m) ms ⌝ }
+{
+    let mut i: usize = 0;
+    while i < 128 {
+        let m = ms[i];
+        let k = page_place(m.space);
+        let page = page_if(m.space, pages[k]);
+        if !record_alone(page, m) {
+            return false;
+        }
+        i += 1;
+    }
+    true
+}
+
+// ---- pairs of records
+
+fn last_address(m: Mapping) -> u64
+    ensures { λ r. ⌜ (r ≡ lastOf (m .address) (m .length)) × (m .address ≤ r) ⌝ }
+{
+    ranges::last_of(m.address, m.length)
+}
+
+// Whether n is of that space and has an address from first to last. No sum is made.
+fn is_touched(space: u32, first: u64, last: u64, n: Mapping) -> bool
+    requires { ⌜ first ≤ last ⌝ }
+    ensures { λ b. ⌜ b ≡ touches space (range first last) n ⌝ }
+{
+    if n.space != space {
+        return false;
+    }
+    if last < n.address {
+        return false;
+    }
+    if first <= n.address {
+        return true;
+    }
+    first - n.address < n.length
+}
+
+// The records after place i, or none where that at i is released.
+fn start_after(space: u32, i: usize) -> usize
+    requires { ⌜ i < 128 ⌝ }
+    ensures { λ j. ⌜ j ≡ startAfter space i ⌝ }
+{
+    if space == 0 { 128 } else { i + 1 }
+}
+
+// Whether two mappings of one space share an address.
+pub fn some_together(ms: [Mapping; 128]) -> bool
+    ensures { λ b. ⌜ b ≡ clashes together ms ⌝ }
+{
+    let mut i: usize = 0;
+    while i < 128 {
+        let m = ms[i];
+        let last = last_address(m);
+        let mut j = start_after(m.space, i);
+        while j < 128 {
+            let n = ms[j];
+            if is_touched(m.space, m.address, last, n) {
+                return true;
+            }
+            j += 1;
+        }
+        i += 1;
+    }
+    false
+}
+
+// ---- backings
+
+fn differs(m: Mapping, n: Mapping) -> bool
+    ensures { λ b. ⌜ b ≡ differ m n ⌝ }
+{
+    let same = both(
+        m.memory == n.memory,
+        both(m.length == n.length, m.founder == n.founder),
+    );
+    both(
+        m.space != 0,
+        both(n.space != 0, both(m.backing == n.backing, !same)),
+    )
+}
+
+// The place of the first record with the backing of that at i: one below the mark, or i itself where there is no mark yet.
+fn leader_place(mark: u8, i: usize) -> usize
+    ensures { λ k. ⌜ k ≡ leaderPlace mark i ⌝ }
+{
+    if mark == 0 { i } else { (mark - 1) as usize }
+}
+
+fn mark_after(mark: u8, i: usize) -> u8
+    requires { ⌜ i < 128 ⌝ }
+    ensures { λ r. ⌜ r ≡ markAfter mark i ⌝ }
+{
+    if mark == 0 { (i + 1) as u8 } else { mark }
+}
+
+// The pages that a record adds to the charge: none where its backing has a mark.
+fn pages_if(mark: u8, m: Mapping) -> u64
+    ensures { λ r. ⌜ (r ≡ addedBy mark m) × (r ≤ 2 ^ 53) ⌝ }
+{
+    if mark != 0 {
+        return 0;
+    }
+    if m.space == 0 {
+        return 0;
+    }
+    ranges::pages_touched(m.memory, m.length)
+}
+
+// Whether the records of each backing agree, and the pages of all backings, each once: in one pass.
+// `marks` has for each backing one more than the place of its first record, and 0 where none was seen.
+pub fn charged_of(ms: [Mapping; 128]) -> Charged
+    requires { ⌜ all numbered ms ≡ true ⌝ }
+    ensures { λ r. ⌜ r ≡ chargedOf ms ⌝ }
+{
+    let mut marks: [u8; 129] = [0; 129];
+    let mut sum: u64 = 0;
+    let mut i: usize = 0;
+    while i < 128 {
+        let m = ms[i];
+        let b = m.backing as usize;
+        let mark = marks[b];
+        let k = leader_place(mark, i);
+        let leader = ms[k];
+        if differs(leader, m) {
+            return Charged::Disagree;
+        }
+        sum += pages_if(mark, m);
+        marks[b] = mark_after(mark, i);
+        i += 1;
+    }
+    Charged::Sum(sum)
+}

@@ -1,0 +1,43 @@
+-- The checks in order.
+use mathlib.Core.Path.{refl, ap, _∙_}
+use mathlib.Core.Bool.{Bool, not, _||_}
+use Rattle.lookups.specs.Settled.{checked, checked-last}
+use Rattle.spaces.specs.Allow.{listChecks}
+use Rattle.spaces.proofs.Listing.{or-is}
+use borrow.Author.Needs.{needs}
+use Rattle.spaces.proofs.list_errno.Statement.{statement}
+use Rattle.spaces.proofs.list_errno.Tie as tie
+
+allowed-valid-requires : tie.Need-allowed-valid-requires
+allowed-valid-requires c κs = search needs
+
+allowed-overlap-requires : tie.Need-allowed-overlap-requires
+allowed-overlap-requires c κs = search needs
+
+either-requires : tie.Need-either-requires
+either-requires c κs = search needs
+
+reserved-touches-requires : tie.Need-reserved-touches-requires
+reserved-touches-requires c κs = search needs
+
+refuse-if-requires : tie.Need-refuse-if-requires
+refuse-if-requires c κs = search needs
+
+refuse-if-requires-2 : tie.Need-refuse-if-requires-2
+refuse-if-requires-2 c κs = search needs
+
+returns : tie.Need-returns
+unfolding listChecks
+returns c = checked _ _ _ _ _ _ _ (c .refuse-if2 .ensures) (or-is _ _ _ _ _ (c .before .before .before .either .ensures) (ap (λ (b : Bool). not b) (c .before .before .before .before .before .allowed-valid .ensures)) (c .before .before .before .before .allowed-overlap .ensures)) (checked-last _ _ _ _ _ (c .before .refuse-if .ensures) (c .before .before .reserved-touches .ensures))
+
+pub list-errno-spec : {M : Type 1} → statement M
+list-errno-spec =
+    tie.close
+    (tie.spec
+    allowed-valid-requires
+    allowed-overlap-requires
+    either-requires
+    reserved-touches-requires
+    refuse-if-requires
+    refuse-if-requires-2
+    returns)
