@@ -107,7 +107,7 @@ bind-sound t bitmap l g =
 -- ---- attach and detach
 
 -- an id that is a device has a place, and is no space
-device-place : (os : List Object) (d : ℕ) → isDevice (objectAt os d .kind) ≡ true → (i : ℕ) × (d ≡ suc i) × (i < ListN.length os) × (spaceAt os (suc i) ≡ false)
+pub device-place : (os : List Object) (d : ℕ) → isDevice (objectAt os d .kind) ≡ true → (i : ℕ) × (d ≡ suc i) × (i < ListN.length os) × (spaceAt os (suc i) ≡ false)
 unfolding spaceAt objectAt
 device-place os zero e = contrary false e refl
 device-place os (suc i) e =
@@ -151,7 +151,7 @@ quiet-loose : (o : Object) → Quiet (looseObject o)
 unfolding looseObject
 quiet-loose o s = refl
 
-detach-passed : (o : Object) → first (detachChecks o) 0 ≡ 0 → isDevice (o .kind) ≡ true
+pub detach-passed : (o : Object) → first (detachChecks o) 0 ≡ 0 → isDevice (o .kind) ≡ true
 unfolding detachChecks
 detach-passed o e = not-false (isDevice (o .kind)) (passed (detachChecks o) 0 (when false 0) (λ z. omega (arith, z), (λ z. omega (arith, z), tt)) e 0 (omega arith))
 
@@ -201,13 +201,17 @@ module _ (os : List Object) (ms : List Mapping) (o : Object) (s : ℕ) (e : firs
   unfolding attachChecks
   attach-passed i h = passed (attachChecks os ms o s) 0 (when false 0) (λ z. omega (arith, z), (λ z. omega (arith, z), (λ z. omega (arith, z), (λ z. omega (arith, z), (λ z. omega (arith, z), tt))))) e i h
 
-  is-device : isDevice (o .kind) ≡ true
+  pub is-device : isDevice (o .kind) ≡ true
   unfolding attachChecks
   is-device = not-false (isDevice (o .kind)) (attach-passed 0 (omega arith))
 
   is-space : spaceAt os s ≡ true
   unfolding attachChecks
   is-space = not-false (spaceAt os s) (attach-passed 1 (omega arith))
+
+  pub not-attached : isAttached (o .kind) ≡ false
+  unfolding attachChecks
+  not-attached = attach-passed 2 (omega arith)
 
   none-blocked : any (blockedBy s (reserved (o .reserved))) ms ≡ false
   unfolding attachChecks

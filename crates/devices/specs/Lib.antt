@@ -3,3 +3,4 @@ pub mod Bind
 pub mod Attach
 pub mod Reach
 pub mod Kept
+pub mod Apart

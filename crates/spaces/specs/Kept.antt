@@ -60,16 +60,20 @@ module _ (os : List Object) (id : ℕ) (e : first (destroyChecks os id) 0 ≡ 0)
   unfolding destroyChecks
   destroy-passed i h = passed (destroyChecks os id) 0 (when false 0) (λ z. omega (arith, z), (λ z. omega (arith, z), tt)) e i h
 
-  is-object : isFree (objectAt os id .kind) ≡ false
+  pub is-object : isFree (objectAt os id .kind) ≡ false
   unfolding destroyChecks
   is-object = destroy-passed 0 (omega arith)
+
+  pub is-loose : isAttached (objectAt os id .kind) ≡ false
+  unfolding destroyChecks inUse
+  is-loose = or-not-left (isAttached (objectAt os id .kind)) (any (λ o. attachedTo id (o .kind)) os) (destroy-passed 1 (omega arith))
 
   none-there : any (λ o. attachedTo id (o .kind)) os ≡ false
   unfolding destroyChecks inUse
   none-there = or-not-right (isAttached (objectAt os id .kind)) (any (λ o. attachedTo id (o .kind)) os) (destroy-passed 1 (omega arith))
 
 -- an id that is an object has a place
-object-place : (os : List Object) (id : ℕ) → isFree (objectAt os id .kind) ≡ false → (i : ℕ) × (id ≡ suc i) × (i < ListN.length os)
+pub object-place : (os : List Object) (id : ℕ) → isFree (objectAt os id .kind) ≡ false → (i : ℕ) × (id ≡ suc i) × (i < ListN.length os)
 unfolding objectAt
 object-place os zero e = contrary true refl e
 object-place os (suc i) e =
@@ -114,7 +118,7 @@ module _ (os : List Object) (s count z : ℕ) (area : List ℕ) (e : first (allo
       passed (allowChecks os s count z area) 0 (when false 0)
       (λ y. omega (arith, y), (λ y. omega (arith, y), (λ y. omega (arith, y), (λ y. omega (arith, y), (λ y. omega (arith, y), (λ y. omega (arith, y), tt)))))) e i h
 
-  allow-space : spaceAt os s ≡ true
+  pub allow-space : spaceAt os s ≡ true
   unfolding allowChecks numberChecks listChecks
   allow-space = not-false (spaceAt os s) (allow-passed 1 (omega arith))
 
@@ -181,7 +185,7 @@ space-no-device : (os : List Object) (o : Object) → isSpace (o .kind) ≡ true
 unfolding objectOk deviceNames deviceValid listValid listClear objectZero
 space-no-device os o s e = space-by os o (o .kind) s e
 
-is-kind : (k : Kind) → isSpace k ≡ true → k ≡ Space
+pub is-kind : (k : Kind) → isSpace k ≡ true → k ≡ Space
 is-kind Free e = contrary false e refl
 is-kind Space e = refl
 is-kind (Device a) e = contrary false e refl

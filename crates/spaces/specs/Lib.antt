@@ -3,3 +3,4 @@ pub mod Objects
 pub mod Allow
 pub mod Ranges
 pub mod Kept
+pub mod Apart
