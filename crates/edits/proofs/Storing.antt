@@ -1,7 +1,8 @@
 -- What each return of the code gives, in the words of the definitions.
-use Prim.Native.Nat.{ℕ, _+_, _≤_, _<_, _^_}
+use Prim.Native.Nat.{ℕ, zero, suc, _+_, _≤_, _<_, _^_}
 use mathlib.Core.Path.{_≡_, refl, sym, ap, _∙_}
 use mathlib.Core.List.{List, map}
+use native.Mathlib.Omega.{arith}
 use lib.IntN.{ℤ, pos}
 use lib.ListN.{length, set, replicate}
 use lib.Seq.{set-out}
@@ -16,7 +17,7 @@ use Rattle.edits.specs.declared.Change.the-variants.{Nothing, Put, Drop}
 use Rattle.edits.specs.declared.Answer.{Answer}
 use Rattle.edits.specs.declared.Edit.{Edit}
 use Rattle.edits.specs.Edits.{putObject, dropSpace, changed, applied}
-use Rattle.edits.specs.Answers.{refusedBy, freshAnswer}
+use Rattle.edits.specs.Answers.{refusedBy, idOr, freshAnswer}
 
 module _ (t : Table) (i : ℕ) where
   pub put-past : (n : Object) → length (t .objects) ≡ 32 → 32 ≤ i → t ≡ putObject t i n
@@ -70,3 +71,12 @@ fresh-made limit z t h e f = rw (e, f, le-ltb (2 ^ 36) limit h)
 pub fresh-table : (limit : ℕ) (o : Object) → o ≡ freeObject → _≡_ {A = Table} record { limit = limit; objects = replicate 32 o; mappings = replicate 128 zeroMapping } (freshTable limit)
 unfolding freshTable
 fresh-table limit o e = rw e
+
+-- an id, or the negative errno
+pub id-refused : (n v : ℕ) → (n ≡ 0 → ⊥) → result n ≡ idOr n v
+id-refused zero v h = absurd (h refl)
+id-refused (suc n) v h = refl
+
+pub id-given : (n v : ℕ) → n ≡ 0 → pos v ≡ idOr n v
+id-given zero v h = refl
+id-given (suc n) v h = absurd (omega arith)

@@ -16,6 +16,14 @@ refusedBy t errno = record { result = result errno; table = t }
 unfoldable pub outcome : Table → Edit → Answer
 outcome t e = record { result = result (e .errno); table = applied t e }
 
+-- bind gives the new id instead of 0
+abbrev pub idOr : ℕ → ℕ → ℤ
+idOr zero id = pos id
+idOr (suc n) id = result (suc n)
+
+unfoldable pub outcomeId : Table → Edit → Answer
+outcomeId t e = record { result = idOr (e .errno) (e .value); table = applied t e }
+
 -- a fresh table: 0, or 22 for a limit above 2^36, with a table that is bad (rule 9)
 unfoldable pub freshAnswer : ℕ → Answer
 freshAnswer limit = record { result = result (cond (ltb (2 ^ 36) limit) 22 0); table = freshTable limit }

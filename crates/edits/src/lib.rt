@@ -1,10 +1,11 @@
 // What a call decides, as a small edit, and the one function that applies it.
 ghost use mathlib.Core.List.{map};
 ghost use mathlib.Core.Path.{_≡_};
+ghost use Prim.Native.Nat.{_<_};
 ghost use Rattle.table.specs.Records.{freeObject, newSpace, ofSpace};
 ghost use Rattle.table.specs.Cleared.{release};
 ghost use Rattle.edits.specs.Edits.{refuse, accept, putObject, dropSpace, applied};
-ghost use Rattle.edits.specs.Answers.{refusedBy, outcome, freshAnswer};
+ghost use Rattle.edits.specs.Answers.{refusedBy, outcome, outcomeId, freshAnswer};
 use rangelists::Allowed;
 use rangelists::Reserved;
 use table::Kind;
@@ -192,6 +193,26 @@ pub fn settled(t: Table, e: Edit) -> Answer
     let table = apply(t, e);
     Answer {
         result: command::signed_result(errno),
+        table,
+    }
+}
+
+// The same for a call whose success is an id: the id instead of 0.
+pub fn settled_id(t: Table, e: Edit) -> Answer
+    requires { ⌜ e .value < 256 ⌝ }
+    ensures { λ a. ⌜ a ≡ outcomeId t e ⌝ }
+{
+    let errno = e.errno;
+    let id = e.value as u8;
+    let table = apply(t, e);
+    if errno != 0 {
+        return Answer {
+            result: command::signed_result(errno),
+            table,
+        };
+    }
+    Answer {
+        result: command::id_result(id),
         table,
     }
 }

@@ -1,0 +1,57 @@
+-- IOAS_ALLOC, DESTROY, ALLOW_IOVAS and IOVA_RANGES for any table and any bytes. The fields are those of document 01's table of commands.
+-- A reply writes its output fields and no other byte; a refusal writes nothing, but for 90.
+use Prim.Native.Nat.{ℕ, zero, suc}
+use mathlib.Core.Bool.{Bool, true, false, cond}
+use mathlib.Core.List.{List}
+use lib.Dec.{eqb}
+use lib.IntN.{ℤ}
+use Rattle.command.specs.Results.{result}
+use Rattle.wire.specs.Fields.{field, put}
+use Rattle.table.specs.declared.Table.{Table}
+use Rattle.edits.specs.declared.Edit.{Edit}
+use Rattle.edits.specs.declared.Answer.{Answer}
+use Rattle.edits.specs.Edits.{settle}
+use Rattle.edits.specs.Answers.{outcome}
+use Rattle.spaces.specs.Objects.{allocEdit, destroyEdit}
+use Rattle.spaces.specs.Allow.{allowEdit}
+use Rattle.spaces.specs.Ranges.{rangesErrno, repliesTo, rangesBytes, rangesArea}
+use Rattle.spacecalls.specs.Gate.{gateErrno}
+
+-- IOAS_ALLOC: size, flags, out id
+unfoldable pub allocCall : Table → List ℕ → Edit
+allocCall t bytes = settle (gateErrno t 0x3B81 bytes) (allocEdit (t .objects) (field 4 bytes 4))
+
+unfoldable pub allocAnswer : Table → List ℕ → Answer
+allocAnswer t bytes = outcome t (allocCall t bytes)
+
+-- the id is written at offset 8
+abbrev pub replyId : Edit → List ℕ → List ℕ
+replyId e bytes = cond (eqb (e .errno) 0) (put 4 bytes 8 (e .value)) bytes
+
+unfoldable pub allocBytes : Table → List ℕ → List ℕ
+allocBytes t bytes = replyId (allocCall t bytes) bytes
+
+-- DESTROY: size, id
+unfoldable pub destroyAnswer : Table → List ℕ → Answer
+destroyAnswer t bytes = outcome t (settle (gateErrno t 0x3B80 bytes) (destroyEdit (t .objects) (field 4 bytes 4)))
+
+-- ALLOW_IOVAS: size, space, count, reserved, pointer
+unfoldable pub allowAnswer : Table → List ℕ → List ℕ → Answer
+allowAnswer t bytes area = outcome t (settle (gateErrno t 0x3B82 bytes) (allowEdit (t .objects) (field 4 bytes 4) (field 4 bytes 8) (field 4 bytes 12) area))
+
+-- IOVA_RANGES: size, space, count, reserved, pointer, alignment
+abbrev pub errnoOr : ℕ → ℕ → ℕ
+errnoOr zero n = n
+errnoOr (suc e) n = suc e
+
+unfoldable pub rangesCall : Table → List ℕ → List ℕ → ℕ
+rangesCall t bytes area = errnoOr (gateErrno t 0x3B84 bytes) (rangesErrno (t .objects) (field 4 bytes 4) (field 4 bytes 8) (field 4 bytes 12) area)
+
+unfoldable pub rangesResult : Table → List ℕ → List ℕ → ℤ
+rangesResult t bytes area = result (rangesCall t bytes area)
+
+unfoldable pub rangesReply : Table → List ℕ → List ℕ → List ℕ
+rangesReply t bytes area = cond (repliesTo (rangesCall t bytes area)) (rangesBytes (t .objects) (field 4 bytes 4) bytes) bytes
+
+unfoldable pub rangesWritten : Table → List ℕ → List ℕ → List ℕ
+rangesWritten t bytes area = cond (repliesTo (rangesCall t bytes area)) (rangesArea (t .objects) (field 4 bytes 4) (field 4 bytes 8) area) area

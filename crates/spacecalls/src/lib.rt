@@ -1,0 +1,1 @@
+// The four commands that place no mapping.
