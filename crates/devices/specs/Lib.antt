@@ -2,5 +2,6 @@
 pub mod Bind
 pub mod Attach
 pub mod Reach
+pub mod Held
 pub mod Kept
 pub mod Apart

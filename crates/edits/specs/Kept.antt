@@ -158,3 +158,12 @@ placed-sound t n g q ok = go (freeRecord (t .objects)) refl
         (hosts-none (t .objects) i n (none-attached (t .objects) (suc i) (g .objects) (p .1)))
         (ok (set (t .objects) i n))
         (Each-of _ (t .mappings) (λ m u k. quiet-bears (t .objects) i n m q (elsewhere (t .objects) i n m (p .1) k)))
+
+-- a new id is small
+pub placed-value : (os : List Object) (n : Object) → ListN.length os ≡ 32 → placed (freeRecord os) n .value < 256
+unfolding freeRecord
+placed-value os n l = go (freeRecord os) refl
+  where
+    go : (o : Option ℕ) → freeRecord os ≡ o → placed o n .value < 256
+    go none e = omega arith
+    go (some i) e = let p = seek-some-lt (λ (o : Object). isFree (o .kind)) 0 os i e in omega (arith, p .1)

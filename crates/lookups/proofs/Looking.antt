@@ -1,7 +1,7 @@
 -- What each return and each loop turn gives, in the words of the definitions.
-use Prim.Native.Nat.{ℕ, zero, suc, _+_, _-_, _/_, _%_, _≤_, _<_, _^_, max}
+use Prim.Native.Nat.{ℕ, suc, _+_, _-_, _/_, _%_, _≤_, _<_, max}
 use mathlib.Core.Path.{_≡_, refl, sym, ap, _∙_}
-use mathlib.Core.Bool.{Bool, true, false, cond}
+use mathlib.Core.Bool.{Bool, true, false}
 use mathlib.Core.List.{List, [], _∷_}
 use mathlib.Core.Option.{Option, none, some}
 use native.Mathlib.Nat.{div-one}
@@ -18,9 +18,9 @@ use Rattle.rangelists.specs.declared.Found.the-variants.{Nothing, At}
 use Rattle.rangelists.specs.Listed.{found}
 use Rattle.command.specs.Flags.{bit}
 use Rattle.table.specs.declared.Attachment.{Attachment}
-use Rattle.table.specs.declared.Attachment.the-variants.{Loose, Attached}
+use Rattle.table.specs.declared.Attachment.the-variants.{Attached}
 use Rattle.table.specs.declared.Kind.{Kind}
-use Rattle.table.specs.declared.Kind.the-variants.{Free, Space, Device}
+use Rattle.table.specs.declared.Kind.the-variants.{Device}
 use Rattle.table.specs.declared.Object.{Object}
 use Rattle.table.specs.declared.Mapping.{Mapping}
 use Rattle.table.specs.Records.{zeroObject, freeObject, isFree, attachedTo, objectAt, canWrite, canRead}

@@ -1,12 +1,15 @@
 -- IOAS_ALLOC, DESTROY, ALLOW_IOVAS and IOVA_RANGES for any table and any bytes. The fields are those of document 01's table of commands.
 -- A reply writes its output fields and no other byte; a refusal writes nothing, but for 90.
 use Prim.Native.Nat.{ℕ, zero, suc}
+use mathlib.Core.Path.{_≡_}
 use mathlib.Core.Bool.{Bool, true, false, cond}
 use mathlib.Core.List.{List}
 use lib.Dec.{eqb}
 use lib.IntN.{ℤ}
+use lib.ListN.{length}
 use Rattle.command.specs.Results.{result}
 use Rattle.wire.specs.Fields.{field, put}
+use Rattle.table.specs.declared.Object.{Object}
 use Rattle.table.specs.declared.Table.{Table}
 use Rattle.edits.specs.declared.Edit.{Edit}
 use Rattle.edits.specs.declared.Answer.{Answer}
@@ -14,7 +17,7 @@ use Rattle.edits.specs.Edits.{settle}
 use Rattle.edits.specs.Answers.{outcome}
 use Rattle.spaces.specs.Objects.{allocEdit, destroyEdit}
 use Rattle.spaces.specs.Allow.{allowEdit}
-use Rattle.spaces.specs.Ranges.{rangesErrno, repliesTo, rangesBytes, rangesArea}
+use Rattle.spaces.specs.Ranges.{freeOf, rangesErrno, repliesTo, rangesBytes, rangesArea}
 use Rattle.spacecalls.specs.Gate.{gateErrno}
 
 -- IOAS_ALLOC: size, flags, out id
@@ -24,12 +27,12 @@ allocCall t bytes = settle (gateErrno t 0x3B81 bytes) (allocEdit (t .objects) (f
 unfoldable pub allocAnswer : Table → List ℕ → Answer
 allocAnswer t bytes = outcome t (allocCall t bytes)
 
--- the id is written at offset 8
-abbrev pub replyId : Edit → List ℕ → List ℕ
-replyId e bytes = cond (eqb (e .errno) 0) (put 4 bytes 8 (e .value)) bytes
+-- the id is written at offset 8, where the call succeeds
+unfoldable pub idWritten : ℕ → ℕ → List ℕ → List ℕ
+idWritten errno id bytes = cond (eqb errno 0) (put 4 bytes 8 id) bytes
 
 unfoldable pub allocBytes : Table → List ℕ → List ℕ
-allocBytes t bytes = replyId (allocCall t bytes) bytes
+allocBytes t bytes = idWritten (allocCall t bytes .errno) (allocCall t bytes .value) bytes
 
 -- DESTROY: size, id
 unfoldable pub destroyAnswer : Table → List ℕ → Answer
@@ -40,6 +43,18 @@ unfoldable pub allowAnswer : Table → List ℕ → List ℕ → Answer
 allowAnswer t bytes area = outcome t (settle (gateErrno t 0x3B82 bytes) (allowEdit (t .objects) (field 4 bytes 4) (field 4 bytes 8) (field 4 bytes 12) area))
 
 -- IOVA_RANGES: size, space, count, reserved, pointer, alignment
+-- its reply: n is the full number of ranges, and what the command and the range area are after it
+pub record RangesReply (os : List Object) (space count n : ℕ) (cmd cmd′ area area′ : List ℕ) : Type 0 where
+  pub full : n ≡ length (freeOf os space)
+  pub bytes : cmd′ ≡ rangesBytes os space cmd
+  pub ranges : area′ ≡ rangesArea os space count area
+
+-- past the gate: n is the errno; 0 and 90 write the reply
+pub record RangesDone (os : List Object) (n : ℕ) (cmd cmd′ area area′ : List ℕ) : Type 0 where
+  pub errno : n ≡ rangesErrno os (field 4 cmd 4) (field 4 cmd 8) (field 4 cmd 12) area
+  pub bytes : cmd′ ≡ cond (repliesTo n) (rangesBytes os (field 4 cmd 4) cmd) cmd
+  pub ranges : area′ ≡ cond (repliesTo n) (rangesArea os (field 4 cmd 4) (field 4 cmd 8) area) area
+
 abbrev pub errnoOr : ℕ → ℕ → ℕ
 errnoOr zero n = n
 errnoOr (suc e) n = suc e

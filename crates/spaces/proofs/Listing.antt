@@ -83,7 +83,7 @@ module _ (os : List Object) (id : ℕ) (o : Object) (e : o ≡ objectAt os id) w
 -- ---- ALLOW_IOVAS: the checks on the numbers, then those on the list
 
 -- a list of checks that refused refuses whatever comes after it
-first-stays : (cs : List (Check ℕ)) (n r : ℕ) → n ≡ first cs 0 → (n ≡ 0 → ⊥) → n ≡ first cs r
+pub first-stays : (cs : List (Check ℕ)) (n r : ℕ) → n ≡ first cs 0 → (n ≡ 0 → ⊥) → n ≡ first cs r
 unfolding first
 first-stays [] n r e h = absurd (h e)
 first-stays (c ∷ cs) n r e h =
@@ -92,7 +92,7 @@ first-stays (c ∷ cs) n r e h =
     (λ t. first-stays cs n r (e ∙ first-passes c cs 0 t) h ∙ sym (first-passes c cs r t))
 
 -- and one that passed leaves the answer to what comes after it
-first-goes : (cs : List (Check ℕ)) (r : ℕ) → Refusals cs 0 → 0 ≡ first cs 0 → r ≡ first cs r
+pub first-goes : (cs : List (Check ℕ)) (r : ℕ) → Refusals cs 0 → 0 ≡ first cs 0 → r ≡ first cs r
 unfolding first
 first-goes [] r h e = refl
 first-goes (c ∷ cs) r h e =

@@ -18,17 +18,17 @@ use Rattle.table.specs.Spaces.{alignment, reservedOf}
 unfoldable pub freeOf : List Object → ℕ → List Range
 freeOf os s = freeRanges (reservedOf os s)
 
-unfoldable pub rangesChecks : List Object → ℕ → ℕ → ℕ → List ℕ → List (Check ℕ)
-rangesChecks os space count mustBeZero area =
+unfoldable pub rangesChecks : List Object → ℕ → ℕ → ℕ → ℕ → List (Check ℕ)
+rangesChecks os space count mustBeZero room =
     when (not (eqb mustBeZero 0)) 95
     ∷ when (not (spaceAt os space)) 2
-    ∷ when (ltb (length area) (16 * count)) 14
+    ∷ when (ltb room (16 * count)) 14
     ∷ []
 
 -- 0 and 90 write the reply, the others write nothing
 unfoldable pub rangesErrno : List Object → ℕ → ℕ → ℕ → List ℕ → ℕ
 rangesErrno os space count mustBeZero area =
-    first (rangesChecks os space count mustBeZero area) (cond (ltb count (length (freeOf os space))) 90 0)
+    first (rangesChecks os space count mustBeZero (length area)) (cond (ltb count (length (freeOf os space))) 90 0)
 
 abbrev pub repliesTo : ℕ → Bool
 repliesTo n = cond (eqb n 0) true (eqb n 90)

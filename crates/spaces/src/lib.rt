@@ -8,6 +8,7 @@ ghost use Rattle.table.specs.Spaces.{reservedOf};
 ghost use Rattle.table.specs.Good.{listsTouch};
 ghost use Rattle.spaces.specs.Objects.{allocEdit, removal, destroyEdit};
 ghost use Rattle.spaces.specs.Allow.{numberAt, column, areaList, touchesList, withAllow, numberChecks, listChecks, allowEdit};
+ghost use Rattle.spaces.specs.Ranges.{rangesChecks};
 use edits::Change;
 use edits::Edit;
 use rangelists::Allowed;
@@ -183,4 +184,20 @@ pub fn decide_allow(os: [Object; 32], space: u32, count: u32, zero: u32, area: &
     }
     let o = lookups::object_at(os, space);
     edits::acceptance(0, Change::Put(place_of(space)), with_allow(o, l))
+}
+
+// The checks of IOVA_RANGES; 0 where it replies.
+pub fn ranges_errno(os: [Object; 32], space: u32, count: u32, zero: u32, room: usize) -> u8
+    ensures { λ r. ⌜ r ≡ first (rangesChecks os space count zero room) 0 ⌝ }
+{
+    let known = lookups::space_at(os, space);
+    lookups::refuse_if(
+        zero != 0,
+        95,
+        lookups::refuse_if(
+            !known,
+            2,
+            lookups::refuse_if(room < 16 * (count as usize), 14, 0),
+        ),
+    )
 }

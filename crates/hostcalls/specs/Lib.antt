@@ -1,0 +1,3 @@
+-- The four host calls, whole: 117 for a bad table, else what the call decides, applied.
+pub mod Calls
+pub mod Good

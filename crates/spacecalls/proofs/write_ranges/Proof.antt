@@ -1,0 +1,47 @@
+-- The area, then the two fields of the command.
+use native.Mathlib.Omega.{arith}
+use Rattle.spacecalls.proofs.Replying.{full-small, replied}
+use borrow.Author.Needs.{needs}
+use Rattle.spacecalls.proofs.write_ranges.Statement.{statement}
+use Rattle.spacecalls.proofs.write_ranges.Tie as tie
+
+blocks-of-requires : tie.Need-blocks-of-requires
+blocks-of-requires c κs = search needs
+
+alignment-of-requires : tie.Need-alignment-of-requires
+alignment-of-requires c κs = search needs
+
+write-free-of-requires : tie.Need-write-free-of-requires
+write-free-of-requires c κs = search needs
+
+cast-write32 : tie.Need-cast-write32
+cast-write32 c = omega (arith, full-small _ _ (c .before .before .before .before .before .before .blocks-of .ensures) _ _ (c .before .before .before .write-free-of .ensures .0))
+
+write32-requires : tie.Need-write32-requires
+write32-requires c κs = search needs
+
+write64-requires : tie.Need-write64-requires
+write64-requires c κs = search needs
+
+same-length : tie.Need-same-length
+same-length c = search needs
+
+same-length-2 : tie.Need-same-length-2
+same-length-2 c = search needs
+
+returns : tie.Need-returns
+returns c = replied _ _ (c .before .before .before .before .before .before .before .before .before .before .before .before .before .blocks-of .ensures) _ _ _ _ _ _ _ _ _ (c .before .before .before .before .before .before .before .before .before .before .write-free-of .ensures .0) (c .before .before .before .before .before .before .before .before .before .before .write-free-of .ensures .1) (c .before .before .before .before .before .before .before .before .before .before .before .before .alignment-of .ensures) (c .before .before .before .before .before .before .write32 .ensures) (c .before .before .write64 .ensures)
+
+pub write-ranges-spec : {M : Type 1} → statement M
+write-ranges-spec =
+    tie.close
+    (tie.spec
+    blocks-of-requires
+    alignment-of-requires
+    write-free-of-requires
+    cast-write32
+    write32-requires
+    write64-requires
+    same-length
+    same-length-2
+    returns)
