@@ -3,11 +3,11 @@ use Prim.Native.Nat.{ℕ, zero, suc, _+_, _-_, _*_, _/_, _%_, _≤_, _<_}
 use mathlib.Core.Path.{_≡_, refl, sym, ap, _∙_}
 use mathlib.Core.Bool.{Bool, true, false, _&&_, cond}
 use mathlib.Core.Logic.{⊎-elim}
-use native.Mathlib.Nat.{mod-zero, mod-lt, mod-self, mod-add-mod, add-mul, one-mul, zero-mod, div-add-mod', mod-eq-of-lt, eq-zero-or-pos, mul-mod-left, mul-le-mul-right, lt-of-mul-lt-mul-right}
+use native.Mathlib.Nat.{mod-zero, mod-lt, mod-self, mod-add-mod, add-mul, one-mul, div-add-mod', mod-eq-of-lt, eq-zero-or-pos, mul-mod-left, mul-le-mul-right, lt-of-mul-lt-mul-right}
 use native.Mathlib.Omega.{arith}
-use lib.Dec.{leb, ltb, eqb}
+use lib.Dec.{ltb, eqb}
 use borrow.Author.Tests.{eqb-true, eqb-false, eq-eqb, ltb-true, ltb-false, lt-ltb, le-ltb}
-use Rattle.lists.specs.Tests.{by-test, contrary, and-left, and-right}
+use Rattle.lists.specs.Tests.{by-test, contrary}
 use Rattle.alignment.specs.declared.Spot.{Spot}
 use Rattle.alignment.specs.declared.Spot.the-variants.{Nowhere, At}
 

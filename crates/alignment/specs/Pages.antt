@@ -1,10 +1,10 @@
 -- The smallest page of a device (document 01, "Alignment of a space": the lowest set bit of its page-size bitmap).
-use Prim.Native.Nat.{ℕ, zero, suc, _+_, _*_, _/_, _%_, _^_, _≤_, _<_}
+use Prim.Native.Nat.{ℕ, zero, suc, _*_, _/_, _%_, _^_, _<_}
 use mathlib.Core.Path.{_≡_, refl, sym, ap, _∙_}
-use native.Mathlib.Nat.{pow-suc, pow-zero, mod-one, div-one, mul-comm, div-div-eq-div-mul}
+use native.Mathlib.Nat.{pow-suc, mod-one, div-one, mul-comm, div-div-eq-div-mul}
 use native.Mathlib.Omega.{arith}
 use lib.Arith.{mod-mul}
-use lib.Pow.{pow-pos, pow-mono}
+use lib.Pow.{pow-pos}
 use lib.Count.{trailingZeros, under}
 
 -- 1 where no bit is set, which bind refuses: so every page is a power of two, and no law has a case for it

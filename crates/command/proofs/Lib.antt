@@ -1,3 +1,4 @@
 pub mod Lookups
 pub mod Steps
 pub mod Words
+pub mod Checking

@@ -1,14 +1,12 @@
 -- Opening a command (document 01, "Opening a command, in order"), from the unknown request on: the bad table comes before it.
 use Prim.Native.Nat.{ℕ}
-use mathlib.Core.Path.{_≡_, refl, sym, ap, _∙_}
-use mathlib.Core.Bool.{Bool, true, false, not}
+use mathlib.Core.Bool.{not}
 use mathlib.Core.List.{List, [], _∷_}
-use Prim.Native.Nat.{_-_, _≤_, _<_}
+use Prim.Native.Nat.{_-_}
 use lib.Dec.{ltb}
 use lib.ListN.{length, take, drop}
 use Rattle.lists.specs.Checks.{Check, when, first}
 use Rattle.wire.specs.Fields.{field, zeros}
-use Rattle.command.specs.declared.Command.{Command}
 use Rattle.command.specs.declared.Row.{Row}
 use Rattle.command.specs.declared.Row.the-variants.{Unlisted, Listed}
 use Rattle.command.specs.declared.Opening.{Opening}

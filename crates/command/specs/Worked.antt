@@ -2,8 +2,8 @@
 use Prim.Native.Nat.{ℕ}
 use mathlib.Core.Path.{_≡_, refl}
 use mathlib.Core.List.{List, [], _∷_, _++_}
-use lib.IntN.{ℤ, negsuc}
-use lib.ListN.{replicate, length, take, drop, getD}
+use lib.IntN.{negsuc}
+use lib.ListN.{replicate}
 use Rattle.lists.specs.Search.{find, all}
 use Rattle.lists.specs.Checks.{first}
 use Rattle.wire.specs.Fields.{field, zeros}

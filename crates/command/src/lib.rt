@@ -1,8 +1,11 @@
 // Opening a command: the request table, the size field, the unknown tail. Then the flags of MAP and COPY, and the signed result of a call.
+ghost use mathlib.Core.Bool.{_&&_, _||_};
+ghost use mathlib.Core.List.{[], _∷_};
 ghost use mathlib.Core.Path.{_≡_};
 ghost use Prim.Native.Nat.{_≤_};
 ghost use lib.IntN.{pos};
 ghost use lib.ListN.{length};
+ghost use Rattle.lists.specs.Checks.{when, first};
 ghost use Rattle.command.specs.Requests.{lookup};
 ghost use Rattle.command.specs.Opening.{tail, openRow, opened, openingErrno};
 ghost use Rattle.command.specs.Flags.{bit, unknown};
@@ -140,4 +143,24 @@ pub fn id_result(id: u8) -> i32
     ensures { λ r. ⌜ r ≡ pos id ⌝ }
 {
     id as i32
+}
+
+// Both, and one of two: without a branch, so that a rule of several tests is one expression.
+pub fn both(a: bool, b: bool) -> bool
+    ensures { λ r. ⌜ r ≡ (a && b) ⌝ }
+{
+    if a { b } else { false }
+}
+
+pub fn either(a: bool, b: bool) -> bool
+    ensures { λ r. ⌜ r ≡ (a || b) ⌝ }
+{
+    if a { true } else { b }
+}
+
+// A check: its errno where it fires, else what the checks after it give. All checks are computed, so a list of them is a nest of calls.
+pub fn refuse_if(fires: bool, errno: u8, rest: u8) -> u8
+    ensures { λ r. ⌜ r ≡ first (when fires errno ∷ []) rest ⌝ }
+{
+    if fires { errno } else { rest }
 }

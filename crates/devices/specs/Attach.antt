@@ -1,8 +1,7 @@
 -- Attach and detach.
-use Prim.Native.Nat.{ℕ, zero, suc, _+_, _-_, max}
-use mathlib.Core.Bool.{Bool, true, false, not, _&&_, _||_}
+use Prim.Native.Nat.{ℕ, _-_, max}
+use mathlib.Core.Bool.{Bool, not, _&&_, _||_}
 use mathlib.Core.List.{List, [], _∷_}
-use lib.Dec.{ltb, eqb}
 use Rattle.lists.specs.Search.{any}
 use Rattle.lists.specs.Checks.{Check, when, first}
 use Rattle.ranges.specs.declared.Range.{Range}
@@ -14,7 +13,7 @@ use Rattle.table.specs.declared.Attachment.the-variants.{Loose, Attached}
 use Rattle.table.specs.declared.Kind.the-variants.{Device}
 use Rattle.table.specs.declared.Object.{Object}
 use Rattle.table.specs.declared.Mapping.{Mapping}
-use Rattle.table.specs.Records.{freeObject, objectAt, spaceAt, isDevice, isAttached, ofSpace, extent}
+use Rattle.table.specs.Records.{objectAt, spaceAt, isDevice, isAttached, ofSpace, extent}
 use Rattle.table.specs.Spaces.{alignment}
 use Rattle.table.specs.Good.{listsTouch}
 use Rattle.edits.specs.declared.Change.the-variants.{Put}

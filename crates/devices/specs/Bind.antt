@@ -1,6 +1,6 @@
 -- Bind: bitmap 0, or its lowest bit above 4,096: 22; over 4 ranges 22; a start above its last 22; no record 12.
-use Prim.Native.Nat.{ℕ, zero, suc, _+_}
-use mathlib.Core.Bool.{Bool, true, false, not, _||_}
+use Prim.Native.Nat.{ℕ, zero, suc}
+use mathlib.Core.Bool.{not, _||_}
 use mathlib.Core.List.{List, [], _∷_}
 use lib.Dec.{ltb, eqb}
 use Rattle.lists.specs.Checks.{Check, when, first}

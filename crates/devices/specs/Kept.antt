@@ -1,18 +1,18 @@
 -- Bind, attach and detach keep a good table good.
-use Prim.Native.Nat.{ℕ, zero, suc, _+_, _-_, _≤_, _<_, _^_, min, max}
-use mathlib.Core.Path.{_≡_, refl, sym, ap, subst, _∙_}
-use mathlib.Core.Bool.{Bool, true, false, not, _&&_, _||_, cond}
+use Prim.Native.Nat.{ℕ, zero, suc, _+_, _-_, _≤_, _<_, min, max}
+use mathlib.Core.Path.{_≡_, refl, sym, ap, _∙_}
+use mathlib.Core.Bool.{Bool, true, false, not, _&&_}
 use mathlib.Core.List.{List, [], _∷_}
 use native.Mathlib.Nat.{mod-one}
 use native.Mathlib.Omega.{arith}
 use lib.Dec.{leb, ltb, eqb}
 use lib.ListN.{getD, set, take, drop, List·getD-eq-default}
 use lib.ListN as ListN
-use borrow.Author.Tests.{eqb-true, eqb-false, eq-eqb, leb-true, leb-false, le-leb, lt-leb, ltb-false, not-true, not-false}
+use borrow.Author.Tests.{eqb-true, eq-eqb, leb-true, leb-false, le-leb, ltb-false, not-false}
 use Rattle.lists.specs.Tests.{by-test, contrary, and-left, and-right, and-both, or-not-left, or-not-right}
 use Rattle.lists.specs.Search.{any, any-nil, all}
-use Rattle.lists.specs.Each.{Each, Each-imp, Each-zip, Each-of, Each-any-false}
-use Rattle.lists.specs.Checks.{Check, when, first, passed, Refusals}
+use Rattle.lists.specs.Each.{Each, Each-zip, Each-of, Each-any-false}
+use Rattle.lists.specs.Checks.{Check, when, first, passed}
 use Rattle.ranges.specs.declared.Range.{Range}
 use Rattle.ranges.specs.Ranges.{share}
 use Rattle.alignment.specs.Pages.{smallestPage, Power, page-power}
@@ -27,18 +27,18 @@ use Rattle.table.specs.declared.Kind.the-variants.{Free, Space, Device}
 use Rattle.table.specs.declared.Object.{Object}
 use Rattle.table.specs.declared.Mapping.{Mapping}
 use Rattle.table.specs.declared.Table.{Table}
-use Rattle.table.specs.Records.{freeObject, zeroObject, isFree, isSpace, isDevice, isAttached, objectAt, spaceAt, attachedTo, used, ofSpace, extent}
+use Rattle.table.specs.Records.{freeObject, isSpace, isDevice, isAttached, objectAt, spaceAt, used, ofSpace, extent}
 use Rattle.table.specs.Spaces.{pageFor, alignment, alignment-power, reservedFor}
 use Rattle.table.specs.Charge.{freeRecord}
-use Rattle.table.specs.Good.{kindNames, deviceBy, listBy, listClearBy, zeroBy, deviceNames, deviceValid, listValid, listClear, objectZero, noDevice, noList, reservedRest, allowRest, good, listsTouch}
-use Rattle.table.specs.Checked.{objectOk, objectsOk, recordOk}
+use Rattle.table.specs.Good.{kindNames, deviceBy, listBy, listClearBy, zeroBy, deviceNames, deviceValid, listValid, listClear, objectZero, noList, reservedRest, allowRest, good, listsTouch}
+use Rattle.table.specs.Checked.{objectOk}
 use Rattle.table.specs.Sound.{Sound}
 use Rattle.table.specs.Facts.{UsedOk}
-use Rattle.table.specs.Replaced.{object-at-ok, objectAt-set-other, spaceAt-set-other, none-attached, hosts-none, spaceAt-place}
+use Rattle.table.specs.Replaced.{object-at-ok, objectAt-set-other, spaceAt-set-other, none-attached, hosts-none}
 use Rattle.table.specs.Moved.{Quiet}
 use Rattle.edits.specs.declared.Edit.{Edit}
 use Rattle.edits.specs.declared.Change.the-variants.{Put}
-use Rattle.edits.specs.Edits.{refuse, accept, settle, placed, putObject, applied}
+use Rattle.edits.specs.Edits.{accept, settle, placed, applied}
 use Rattle.edits.specs.Kept.{Bears, AllBorne, put-sound, quiet-bears, elsewhere, settle-sound, placed-sound}
 use Rattle.devices.specs.Bind.{onlyFirst, trimmed, newDevice, bindChecks, bindEdit}
 use Rattle.devices.specs.Attach.{blockedBy, misfits, alignmentWith, attachedObject, looseObject, attachChecks, attachEdit, detachChecks, detachEdit}

@@ -45,13 +45,13 @@ fn bind_errno(bitmap: u64, l: Reserved) -> u8
     ensures { λ r. ⌜ r ≡ first (bindChecks bitmap l) 0 ⌝ }
 {
     let page = alignment::smallest_page(bitmap);
-    let wrong = lookups::either(bitmap == 0, 4096 < page);
+    let wrong = command::either(bitmap == 0, 4096 < page);
     let count = l.count;
     let ordered = rangelists::reserved_valid(l);
-    lookups::refuse_if(
+    command::refuse_if(
         wrong,
         22,
-        lookups::refuse_if(4 < count, 22, lookups::refuse_if(!ordered, 22, 0)),
+        command::refuse_if(4 < count, 22, command::refuse_if(!ordered, 22, 0)),
     )
 }
 
@@ -184,7 +184,7 @@ fn list_blocked(os: [Object; 32], s: u32, l: Reserved) -> bool
 {
     let h = lookups::object_at(os, s);
     let allow = h.allow;
-    lookups::lists_touch(l, allow)
+    table::lists_touch(l, allow)
 }
 
 fn attach_errno(os: [Object; 32], ms: [Mapping; 128], o: Object, s: u32) -> u8
@@ -192,24 +192,24 @@ fn attach_errno(os: [Object; 32], ms: [Mapping; 128], o: Object, s: u32) -> u8
 {
     let k = o.kind;
     let l = o.reserved;
-    let device = lookups::is_device(k);
-    let attached = lookups::is_attached(k);
+    let device = table::is_device(k);
+    let attached = table::is_attached(k);
     let space = lookups::space_at(os, s);
     let mapped = touches_mapping(ms, s, l);
     let listed = list_blocked(os, s, l);
-    let blocked = lookups::either(mapped, listed);
+    let blocked = command::either(mapped, listed);
     let a = alignment_with(os, s, o);
     let misaligned = some_misfit(ms, s, a);
-    lookups::refuse_if(
+    command::refuse_if(
         !device,
         2,
-        lookups::refuse_if(
+        command::refuse_if(
             !space,
             2,
-            lookups::refuse_if(
+            command::refuse_if(
                 attached,
                 16,
-                lookups::refuse_if(blocked, 98, lookups::refuse_if(misaligned, 98, 0)),
+                command::refuse_if(blocked, 98, command::refuse_if(misaligned, 98, 0)),
             ),
         ),
     )
@@ -244,9 +244,9 @@ fn detach_errno(o: Object) -> u8
     ensures { λ r. ⌜ r ≡ first (detachChecks o) 0 ⌝ }
 {
     let k = o.kind;
-    let device = lookups::is_device(k);
-    let attached = lookups::is_attached(k);
-    lookups::refuse_if(!device, 2, lookups::refuse_if(!attached, 22, 0))
+    let device = table::is_device(k);
+    let attached = table::is_attached(k);
+    command::refuse_if(!device, 2, command::refuse_if(!attached, 22, 0))
 }
 
 fn loose_object(o: Object) -> Object
@@ -306,9 +306,9 @@ fn may_do(write: bool, m: Mapping) -> bool
     ensures { λ b. ⌜ b ≡ mayDo write m ⌝ }
 {
     if write {
-        return lookups::can_write(m);
+        return table::can_write(m);
     }
-    lookups::can_read(m)
+    table::can_read(m)
 }
 
 // The memory behind address a of a mapping that holds it.
@@ -331,16 +331,16 @@ fn reach_in(m: Mapping, a: u64, write: bool) -> Reach
 fn reach_errno(k: Kind, a: u64, n: u64) -> u8
     ensures { λ r. ⌜ r ≡ first (reachChecks k a n) 0 ⌝ }
 {
-    let device = lookups::is_device(k);
-    let attached = lookups::is_attached(k);
+    let device = table::is_device(k);
+    let attached = table::is_attached(k);
     let past = ranges::passes_max(a, n);
-    lookups::refuse_if(
+    command::refuse_if(
         !device,
         2,
-        lookups::refuse_if(
+        command::refuse_if(
             !attached,
             22,
-            lookups::refuse_if(n == 0, 22, lookups::refuse_if(past, 75, 0)),
+            command::refuse_if(n == 0, 22, command::refuse_if(past, 75, 0)),
         ),
     )
 }
@@ -356,7 +356,7 @@ pub fn reach_of(os: [Object; 32], ms: [Mapping; 128], d: u32, a: u64, n: u64, wr
     if errno != 0 {
         return Reach { errno, address: 0 };
     }
-    let s = lookups::home_of(k);
+    let s = table::home_of(k);
     let r = ranges::span_of(a, n);
     let f = find_around(ms, s, r);
     let Around::In(m) = f else {

@@ -1,6 +1,6 @@
 -- What a call gives back (document 01, "Errno numbers"): 0 or the negative of the errno, and the table. A refusal leaves the table as it was.
 use Prim.Native.Nat.{ℕ, zero, suc, _^_}
-use mathlib.Core.Bool.{Bool, true, false, cond}
+use mathlib.Core.Bool.{cond}
 use lib.Dec.{ltb}
 use lib.IntN.{ℤ, pos}
 use Rattle.command.specs.Results.{result}

@@ -1,7 +1,7 @@
 -- An edit keeps a sound table sound, given what the checks of its call have shown of the new object.
 use Prim.Native.Nat.{ℕ, zero, suc, _+_, _≤_, _<_}
-use mathlib.Core.Path.{_≡_, refl, sym, ap, subst, _∙_}
-use mathlib.Core.Bool.{Bool, true, false, not, _&&_, cond}
+use mathlib.Core.Path.{_≡_, refl, sym, ap, _∙_}
+use mathlib.Core.Bool.{Bool, true, false, not}
 use mathlib.Core.List.{List, map}
 use mathlib.Core.Option.{Option, none, some}
 use native.Mathlib.Numerals.{add-one}
@@ -9,7 +9,7 @@ use native.Mathlib.Omega.{arith}
 use lib.Dec.{leb, eqb}
 use lib.ListN as ListN
 use lib.ListN.{getD, set, length-set, length-map}
-use borrow.Author.Tests.{lt-leb, eqb-true, eqb-false, eq-eqb}
+use borrow.Author.Tests.{lt-leb, eqb-false}
 use Rattle.lists.specs.Tests.{by-test, contrary}
 use Rattle.lists.specs.Search.{any, all, seek-some-lt, seek-some-at}
 use Rattle.lists.specs.Each.{Each, Each-of, Each-map, Each-zip}
@@ -20,7 +20,7 @@ use Rattle.table.specs.declared.Mapping.{Mapping}
 use Rattle.table.specs.declared.Table.{Table}
 use Rattle.table.specs.declared.Kind.{Kind}
 use Rattle.table.specs.declared.Kind.the-variants.{Free, Space, Device}
-use Rattle.table.specs.Records.{freeObject, isFree, isSpace, spaceAt, attachedTo, used, ofSpace, extent, zeroMapping}
+use Rattle.table.specs.Records.{freeObject, isFree, isSpace, spaceAt, attachedTo, used, ofSpace, extent}
 use Rattle.table.specs.Spaces.{pageFor, reservedFor}
 use Rattle.table.specs.Charge.{charge, freeRecord}
 use Rattle.table.specs.Good.{deviceNames, deviceValid, listValid, listClear, objectZero, noDevice, noList, reservedRest, allowRest}
@@ -28,12 +28,12 @@ use Rattle.wire.specs.Fields.{zeros}
 use Rattle.table.specs.Checked.{objectOk, recordOk}
 use Rattle.table.specs.Sound.{Sound}
 use Rattle.table.specs.Facts.{UsedOk, record-used, used-record, record-free, zero-record}
-use Rattle.table.specs.Replaced.{Hosts, objects-replaced, hosts-none, none-attached, objectAt-place, spaceAt-set-other, spaceAt-set-same}
+use Rattle.table.specs.Replaced.{Hosts, objects-replaced, hosts-none, none-attached, objectAt-place, spaceAt-set-other}
 use Rattle.table.specs.Moved.{used-replaced, Quiet, quiet-reserved, quiet-fits}
 use Rattle.table.specs.Cleared.{release, release-true, release-false, release-once, release-agree}
 use Rattle.table.specs.Charged.{release-charge}
 use Rattle.edits.specs.declared.Edit.{Edit}
-use Rattle.edits.specs.Edits.{refuse, settle, placed, putObject, dropSpace, applied}
+use Rattle.edits.specs.Edits.{settle, placed, putObject, dropSpace, applied}
 
 -- a released object keeps the rules of objects
 pub free-ok : (os : List Object) → objectOk os freeObject ≡ true

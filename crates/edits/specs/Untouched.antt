@@ -1,17 +1,15 @@
 -- "A call on one space changes no mapping, list or device of another" (document 01), as a relation between the tables before and after.
-use Prim.Native.Nat.{ℕ, zero, suc, _+_, _≤_, _<_}
+use Prim.Native.Nat.{ℕ, zero, suc, _+_}
 use mathlib.Core.Path.{_≡_, refl, sym, ap, _∙_}
-use mathlib.Core.Bool.{Bool, true, false, cond}
+use mathlib.Core.Bool.{true, false, cond}
 use mathlib.Core.List.{List, [], _∷_, map}
 use mathlib.Core.Option.{Option, none, some}
 use native.Mathlib.Numerals.{add-one}
-use native.Mathlib.Omega.{arith}
 use lib.Dec.{leb, eqb}
-use lib.ListN.{length, getD, set}
+use lib.ListN.{getD, set}
 use lib.Seq.{map-set-same}
-use borrow.Author.Tests.{eqb-true, eqb-false, eq-eqb, lt-leb, le-leb}
+use borrow.Author.Tests.{eqb-true}
 use Rattle.lists.specs.Tests.{by-test, contrary}
-use Rattle.lists.specs.Search.{any, any-false-at}
 use Rattle.table.specs.declared.Object.{Object}
 use Rattle.table.specs.declared.Mapping.{Mapping}
 use Rattle.table.specs.declared.Table.{Table}
@@ -19,7 +17,7 @@ use Rattle.table.specs.Records.{freeObject, zeroMapping, objectAt, spaceAt, att
 use Rattle.table.specs.Charge.{freeRecord}
 use Rattle.table.specs.Cleared.{release, release-true, release-false}
 use Rattle.table.specs.Sound.{Sound}
-use Rattle.table.specs.Replaced.{objectAt-set-other, none-attached}
+use Rattle.table.specs.Replaced.{objectAt-set-other}
 use Rattle.edits.specs.declared.Edit.{Edit}
 use Rattle.edits.specs.Edits.{settle, placed, putObject, dropSpace, applied}
 use Rattle.edits.specs.Kept.{free-place}

@@ -5,55 +5,21 @@ ghost use Prim.Native.Nat.{_≤_};
 ghost use lib.ListN.{length};
 ghost use Rattle.lists.specs.Search.{all};
 ghost use Rattle.blocks.specs.Blocked.{blocked};
-ghost use Rattle.table.specs.Records.{homeOf, isAttached};
 ghost use Rattle.table.specs.Good.{whenUsed, clearOf};
 ghost use Rattle.facts.specs.Gathered.{Gathered, placesFor};
 ghost use Rattle.facts.specs.Clear.{strikes};
 use blocks::Blocks;
 use rangelists::Reserved;
 use ranges::Range;
-use table::Attachment;
 use table::Kind;
 use table::Mapping;
 use table::Object;
-
-// The space that a device is attached to, 0 for any other object.
-fn home(k: Kind) -> u32
-    ensures { λ s. ⌜ s ≡ homeOf k ⌝ }
-{
-    match k {
-        Kind::Free => 0,
-        Kind::Space => 0,
-        Kind::Device(a) => {
-            match a {
-                Attachment::Loose => 0,
-                Attachment::Attached(s) => s,
-            }
-        }
-    }
-}
-
-// Whether the object is a device that is attached.
-fn is_attached(k: Kind) -> bool
-    ensures { λ b. ⌜ b ≡ isAttached k ⌝ }
-{
-    match k {
-        Kind::Free => false,
-        Kind::Space => false,
-        Kind::Device(a) => {
-            match a {
-                Attachment::Loose => false,
-                Attachment::Attached(_) => true,
-            }
-        }
-    }
-}
 
 // How many ranges of an object's list are reserved somewhere: those in use where it is an attached device, else none.
 fn places(k: Kind, l: Reserved) -> usize
     ensures { λ n. ⌜ (n ≡ placesFor k (l .count)) × (n ≤ 4) × (n ≤ length (l .starts)) × (n ≤ length (l .lasts)) ⌝ }
 {
-    if !is_attached(k) {
+    if !table::is_attached(k) {
         return 0;
     }
     let count = l.count as usize;
@@ -73,7 +39,7 @@ pub fn blocks_of(os: [Object; 32]) -> Blocks
         let o = os[i];
         let k = o.kind;
         let l = o.reserved;
-        let s = home(k);
+        let s = table::home_of(k);
         let m = places(k, l);
         let mut j: usize = 0;
         while j < m {

@@ -1,6 +1,6 @@
 -- What each return of a host call gives: 117, or the outcome of the edit that was decided.
 use Prim.Native.Nat.{ℕ, zero, suc, _<_}
-use mathlib.Core.Path.{_≡_, refl, sym, ap, _∙_}
+use mathlib.Core.Path.{_≡_, ap, _∙_}
 use mathlib.Core.Bool.{Bool, true, false}
 use mathlib.Core.List.{List}
 use native.Mathlib.Omega.{arith}
@@ -11,20 +11,19 @@ use Rattle.lists.specs.Checks.{first}
 use Rattle.rangelists.specs.declared.Reserved.{Reserved}
 use Rattle.command.specs.Results.{result}
 use Rattle.table.specs.declared.Object.{Object}
-use Rattle.table.specs.declared.Mapping.{Mapping}
 use Rattle.table.specs.declared.Table.{Table}
 use Rattle.table.specs.Charge.{freeRecord}
 use Rattle.table.specs.Good.{good}
 use Rattle.table.specs.Checked.{recordOk}
-use Rattle.table.specs.Sound.{Sound, good-sound}
+use Rattle.table.specs.Sound.{good-sound}
 use Rattle.edits.specs.declared.Edit.{Edit}
 use Rattle.edits.specs.declared.Answer.{Answer}
 use Rattle.edits.specs.Edits.{settle, placed, applied}
-use Rattle.edits.specs.Answers.{refusedBy, outcome, idOr, outcomeId}
+use Rattle.edits.specs.Answers.{refusedBy, outcome, outcomeId}
 use Rattle.edits.specs.Kept.{placed-value}
 use Rattle.devices.specs.declared.Reach.{Reach}
 use Rattle.devices.specs.Bind.{newDevice, bindChecks, bindEdit}
-use Rattle.devices.specs.Reach.{reachSettle, reachOf}
+use Rattle.devices.specs.Reach.{reachOf}
 use Rattle.hostcalls.specs.declared.Reached.{Reached}
 use Rattle.hostcalls.specs.Calls.{tableErrno, reachedBy, reachCall}
 

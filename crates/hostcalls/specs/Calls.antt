@@ -1,6 +1,6 @@
 -- Bind, attach, detach and reach for any table (document 01, "Host calls, checks in order after 117").
 use Prim.Native.Nat.{ℕ}
-use mathlib.Core.Bool.{Bool, true, false, cond}
+use mathlib.Core.Bool.{Bool, cond}
 use Rattle.rangelists.specs.declared.Reserved.{Reserved}
 use Rattle.command.specs.Results.{result}
 use Rattle.table.specs.declared.Table.{Table}

@@ -1,7 +1,7 @@
 -- No host call makes a bad table out of a good one, and a call on one space leaves the others as they were.
 use Prim.Native.Nat.{ℕ}
 use mathlib.Core.Path.{_≡_}
-use mathlib.Core.Bool.{Bool, true, false}
+use mathlib.Core.Bool.{true}
 use Rattle.rangelists.specs.declared.Reserved.{Reserved}
 use Rattle.table.specs.declared.Table.{Table}
 use Rattle.table.specs.Records.{homeOf, objectAt, spaceAt}

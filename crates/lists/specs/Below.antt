@@ -1,17 +1,16 @@
 -- Sums and counts over the numbers below n, the exchange with a sum over a list, and the lowest of some numbers that passes a test.
 -- All are shut: a sum over 2^64 numbers is reasoned about and never computed.
 use Prim.Native.Nat.{ℕ, zero, suc, _+_, _-_, _*_, _≤_, _<_, zero-le, min}
-use mathlib.Core.Path.{_≡_, refl, sym, ap, _∙_}
+use mathlib.Core.Path.{_≡_, refl, sym, _∙_}
 use mathlib.Core.Bool.{Bool, true, false, _&&_}
 use mathlib.Core.List.{List}
 use mathlib.Core.Logic.{⊎-elim}
 use mathlib.Core.Option.{Option, none, some}
 use native.Mathlib.Nat.{le-of-suc-le-suc, not-suc-le-zero, eq-or-lt-of-le}
-use native.Mathlib.Numerals.{add-one}
 use native.Mathlib.Omega.{arith}
 use lib.Dec.{leb, ltb, eqb}
-use borrow.Author.Tests.{leb-true, leb-false, ltb-true, ltb-false, eqb-true, eqb-false, lt-ltb, le-ltb}
-use Rattle.lists.specs.Tests.{by-test, contrary, same-test, onlyIf, onlyIf-true, onlyIf-false, onlyIf-le, onlyIf-mono}
+use borrow.Author.Tests.{leb-true, leb-false, ltb-true, ltb-false, eqb-true, eqb-false}
+use Rattle.lists.specs.Tests.{by-test, contrary, onlyIf, onlyIf-false}
 use Rattle.lists.specs.Sums.{sumOf, sumOf-add, sumOf-zero}
 
 -- f 0 + .. + f (n - 1)

@@ -1,12 +1,12 @@
 -- Pairs of elements that clash: some element, and a later one.
 use Prim.Native.Nat.{ℕ, zero, suc, _+_, _≤_, _<_}
-use mathlib.Core.Path.{_≡_, refl, sym, ap, _∙_}
+use mathlib.Core.Path.{_≡_, refl, sym, _∙_}
 use mathlib.Core.Bool.{Bool, true, false, _||_}
 use mathlib.Core.List.{List, [], _∷_}
 use native.Mathlib.Nat.{le-of-suc-le-suc, not-suc-le-zero}
 use native.Mathlib.Omega.{arith}
 use lib.ListN.{length, getD, drop, drop-of-length-le}
-use Rattle.lists.specs.Tests.{by-test, contrary, or-left, or-right, or-not-left, or-not-right, or-neither, or-other}
+use Rattle.lists.specs.Tests.{by-test, contrary, or-not-left, or-not-right, or-neither, or-other}
 use Rattle.lists.specs.Search.{any, any-none, any-false-at, any-place, drop-turn}
 
 module _ {A : Type 0} where

@@ -11,7 +11,7 @@ use native.Mathlib.Numerals.{add-one}
 use native.Mathlib.Omega.{arith}
 use lib.ListN.{length, getD, drop, drop-of-length-le}
 use lib.Seq.{drop-cons}
-use Rattle.lists.specs.Tests.{by-test, contrary, same-test, and-left, and-right, and-both, or-left, or-right, or-not-left, or-not-right, or-neither, or-other}
+use Rattle.lists.specs.Tests.{by-test, contrary, and-left, and-right, and-both, or-left, or-right, or-not-left, or-not-right, or-other}
 
 module _ {A : Type 0} where
   -- what is left at i is the element at i and what is left at i + 1

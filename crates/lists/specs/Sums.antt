@@ -1,14 +1,14 @@
 -- The sum of a weight over the elements of a list, and the elements that pass a test.
 use Prim.Native.Nat.{ℕ, zero, suc, _+_, _*_, _≤_, _<_, zero-le}
-use mathlib.Core.Path.{_≡_, refl, sym, ap, _∙_}
-use mathlib.Core.Bool.{Bool, true, false, _&&_, _||_, cond}
+use mathlib.Core.Path.{_≡_, refl, ap, _∙_}
+use mathlib.Core.Bool.{Bool, false, _&&_, _||_, cond}
 use mathlib.Core.List.{List, [], _∷_, _++_}
 use native.Mathlib.Nat.{le-of-suc-le-suc, not-suc-le-zero, suc-mul}
 use native.Mathlib.Omega.{arith}
 use lib.Dec.{ltb}
 use lib.ListN.{length, getD, drop, replicate, drop-of-length-le}
 use borrow.Author.Tests.{lt-ltb}
-use Rattle.lists.specs.Tests.{by-test, onlyIf, onlyIf-true, onlyIf-zero}
+use Rattle.lists.specs.Tests.{by-test, onlyIf, onlyIf-zero}
 use Rattle.lists.specs.Search.{any, drop-turn}
 use Rattle.lists.specs.Each.{Each}
 

@@ -2,14 +2,14 @@
 use Prim.Native.Nat.{ℕ, zero, suc, _+_, _≤_, _<_}
 use mathlib.Core.Path.{_≡_, refl, sym, ap, _∙_}
 use mathlib.Core.Bool.{Bool, true, false, not, _&&_, _||_, cond}
-use mathlib.Core.List.{List, [], _∷_, _++_, map}
+use mathlib.Core.List.{List, [], _∷_, map}
 use native.Mathlib.Nat.{le-of-suc-le-suc, not-suc-le-zero}
 use native.Mathlib.Numerals.{add-one}
 use native.Mathlib.Omega.{arith}
 use lib.Dec.{eqb}
 use lib.ListN.{length, getD, set, length-map}
 use borrow.Author.Tests.{eq-eqb}
-use Rattle.lists.specs.Tests.{by-test, and-left, and-right, and-both, or-not-left, or-not-right, or-neither, onlyIf}
+use Rattle.lists.specs.Tests.{and-left, and-right, and-both, or-not-left, or-not-right, or-neither}
 use Rattle.lists.specs.Search.{any, all}
 use Rattle.lists.specs.Pairs.{clashes}
 use Rattle.lists.specs.Sums.{sumOf}

@@ -1,15 +1,11 @@
 -- What each return and each loop turn gives, in the words of the definitions.
-use Prim.Native.Nat.{ℕ, suc, _+_, _-_, _/_, _%_, _≤_, _<_, max}
+use Prim.Native.Nat.{ℕ, suc, _+_, _-_, _≤_, _<_, max}
 use mathlib.Core.Path.{_≡_, refl, sym, ap, _∙_}
-use mathlib.Core.Bool.{Bool, true, false}
-use mathlib.Core.List.{List, [], _∷_}
+use mathlib.Core.Bool.{true, false}
+use mathlib.Core.List.{List}
 use mathlib.Core.Option.{Option, none, some}
-use native.Mathlib.Nat.{div-one}
 use native.Mathlib.Omega.{arith}
-use lib.Bits.{bitAnd, and-mask}
-use lib.Dec.{eqb}
 use lib.ListN.{length, getD, drop}
-use Rattle.lists.specs.Checks.{when, first}
 use Rattle.lists.specs.Search.{seek, seek-found, seek-on, seek-end, seek-some-lt}
 use Rattle.alignment.specs.Pages.{smallestPage}
 use Rattle.alignment.specs.Highest.{highest, highest-start, highest-on, highest-end}
@@ -17,13 +13,8 @@ use Rattle.rangelists.specs.declared.Found.{Found}
 use Rattle.rangelists.specs.declared.Found.the-variants.{Nothing, At}
 use Rattle.rangelists.specs.Listed.{found}
 use Rattle.command.specs.Flags.{bit}
-use Rattle.table.specs.declared.Attachment.{Attachment}
-use Rattle.table.specs.declared.Attachment.the-variants.{Attached}
-use Rattle.table.specs.declared.Kind.{Kind}
-use Rattle.table.specs.declared.Kind.the-variants.{Device}
 use Rattle.table.specs.declared.Object.{Object}
-use Rattle.table.specs.declared.Mapping.{Mapping}
-use Rattle.table.specs.Records.{zeroObject, freeObject, isFree, attachedTo, objectAt, canWrite, canRead}
+use Rattle.table.specs.Records.{zeroObject, freeObject, isFree, attachedTo, objectAt}
 use Rattle.table.specs.Spaces.{pageFor, alignment}
 use Rattle.table.specs.Charge.{freeRecord}
 use Rattle.table.specs.Replaced.{objectAt-place, objectAt-past}
@@ -31,20 +22,7 @@ use Rattle.edits.specs.declared.Edit.{Edit}
 use Rattle.edits.specs.declared.Change.the-variants.{Put}
 use Rattle.edits.specs.Edits.{refuse, accept, placed}
 
--- ---- a check
-
-pub refuse-fired : (b : Bool) (n rest : ℕ) → b ≡ true → n ≡ first (when b n ∷ []) rest
-unfolding first
-refuse-fired b n rest e = rw e
-
-pub refuse-passed : (b : Bool) (n rest : ℕ) → b ≡ false → rest ≡ first (when b n ∷ []) rest
-unfolding first
-refuse-passed b n rest e = rw e
-
 -- ---- an object
-
-pub attached-at : (s h : ℕ) (a : Attachment) (k : Kind) → k ≡ Device a → a ≡ Attached h → eqb h s ≡ attachedTo s k
-attached-at s h a k e f = sym (ap (attachedTo s) (e ∙ ap Device f))
 
 module _ (os : List Object) (id : ℕ) where
   pub object-none : (o : Object) → id ≡ 0 → o ≡ freeObject → o ≡ objectAt os id
@@ -126,13 +104,3 @@ module _ (s best i : ℕ) (os : List Object) {k : ℕ} (v : alignLeft s best i o
   pub align-end : length os ≤ i → 1 ≤ best → best ≡ k
   unfolding alignLeft
   align-end h p = highest-end (pageFor s) os i best v h p
-
--- ---- the rights of a mapping, by their bits
-
-pub write-bit : (m : Mapping) → eqb (bitAnd (m .rights) 1) 1 ≡ canWrite m
-unfolding canWrite bit
-write-bit m = ap (λ (x : ℕ). eqb x 1) (and-mask (m .rights) 1 ∙ ap (λ (x : ℕ). x % 2) (sym (div-one (m .rights))))
-
-pub read-bit : (m : Mapping) → eqb (bitAnd (m .rights / 2) 1) 1 ≡ canRead m
-unfolding canRead bit
-read-bit m = ap (λ (x : ℕ). eqb x 1) (and-mask (m .rights / 2) 1)

@@ -1,37 +1,18 @@
 // Whether the objects of a table are good: each record by itself and by the one record that it names.
 // Records go into the tests one by one; the array stays in the loop.
 ghost use mathlib.Core.Path.{_≡_};
-ghost use mathlib.Core.Bool.{true, _&&_};
-ghost use Prim.Native.Nat.{_<_, min};
+ghost use mathlib.Core.Bool.{true};
+ghost use Prim.Native.Nat.{_<_};
 ghost use lib.ListN.{drop};
 ghost use Rattle.rangelists.specs.Listed.{reserved, allowed};
 ghost use Rattle.wire.specs.Fields.{zeros};
-ghost use Rattle.table.specs.Records.{isSpace};
-ghost use Rattle.table.specs.Good.{listsTouch, reservedRest, allowRest, noDevice, noList};
+ghost use Rattle.table.specs.Good.{reservedRest, allowRest, noDevice, noList};
 ghost use Rattle.table.specs.Checked.{objectsOk};
 ghost use Rattle.objects.specs.Pages.{Pages, slotBy, slotOf, askBy, askOf};
 ghost use Rattle.objects.specs.Judged.{deviceFits, listFits, homeFits, attachFits, fitsBy, placeBy, namedPlace};
-use rangelists::Allowed;
-use rangelists::Reserved;
-use ranges::Range;
 use table::Attachment;
 use table::Kind;
 use table::Object;
-
-// Both at once, so that a rule of several tests has no branch.
-fn both(a: bool, b: bool) -> bool
-    ensures { λ r. ⌜ r ≡ (a && b) ⌝ }
-{
-    if a { b } else { false }
-}
-
-// How many of `room` places a count names.
-fn in_use(count: u32, room: usize) -> usize
-    ensures { λ n. ⌜ n ≡ min count room ⌝ }
-{
-    let n = count as usize;
-    if n < room { n } else { room }
-}
 
 // Whether every place from `from` on is zero.
 fn zero_from(xs: &[u64], from: usize) -> bool
@@ -51,16 +32,16 @@ fn reserved_rest(o: Object) -> bool
     ensures { λ b. ⌜ b ≡ reservedRest o ⌝ }
 {
     let l = o.reserved;
-    let n = in_use(l.count, 4);
-    both(zero_from(&l.starts, n), zero_from(&l.lasts, n))
+    let n = rangelists::used(l.count, 4);
+    command::both(zero_from(&l.starts, n), zero_from(&l.lasts, n))
 }
 
 fn allow_rest(o: Object) -> bool
     ensures { λ b. ⌜ b ≡ allowRest o ⌝ }
 {
     let l = o.allow;
-    let n = in_use(l.count, 8);
-    both(zero_from(&l.starts, n), zero_from(&l.lasts, n))
+    let n = rangelists::used(l.count, 8);
+    command::both(zero_from(&l.starts, n), zero_from(&l.lasts, n))
 }
 
 // Whether what only a device has is zero.
@@ -68,7 +49,7 @@ fn no_device(o: Object) -> bool
     ensures { λ b. ⌜ b ≡ noDevice o ⌝ }
 {
     let l = o.reserved;
-    both(o.bitmap == 0, both(l.count == 0, reserved_rest(o)))
+    command::both(o.bitmap == 0, command::both(l.count == 0, reserved_rest(o)))
 }
 
 // Whether what only a space has is zero.
@@ -76,7 +57,7 @@ fn no_list(o: Object) -> bool
     ensures { λ b. ⌜ b ≡ noList o ⌝ }
 {
     let l = o.allow;
-    both(l.count == 0, allow_rest(o))
+    command::both(l.count == 0, allow_rest(o))
 }
 
 // Whether bind takes the fields of a device.
@@ -85,11 +66,11 @@ fn device_valid(o: Object) -> bool
 {
     let l = o.reserved;
     let page = alignment::smallest_page(o.bitmap);
-    both(
+    command::both(
         o.bitmap != 0,
-        both(
+        command::both(
             page <= 4096,
-            both(l.count <= 4, rangelists::reserved_valid(l)),
+            command::both(l.count <= 4, rangelists::reserved_valid(l)),
         ),
     )
 }
@@ -99,42 +80,13 @@ fn list_valid(o: Object) -> bool
     ensures { λ b. ⌜ b ≡ listFits o ⌝ }
 {
     let l = o.allow;
-    both(
+    command::both(
         l.count <= 8,
-        both(
+        command::both(
             rangelists::allowed_valid(l),
             !rangelists::allowed_overlap(l),
         ),
     )
-}
-
-// Whether some reserved range shares an address with some range of an allow list.
-fn lists_touch(l: Reserved, allow: Allowed) -> bool
-    ensures { λ b. ⌜ b ≡ listsTouch (reserved l) (allowed allow) ⌝ }
-{
-    let n = in_use(l.count, 4);
-    let mut i: usize = 0;
-    while i < n {
-        let r = Range {
-            start: l.starts[i],
-            last: l.lasts[i],
-        };
-        if rangelists::is_found(rangelists::allowed_touched(allow, r)) {
-            return true;
-        }
-        i += 1;
-    }
-    false
-}
-
-fn is_space(k: Kind) -> bool
-    ensures { λ b. ⌜ b ≡ isSpace k ⌝ }
-{
-    match k {
-        Kind::Free => false,
-        Kind::Space => true,
-        Kind::Device(_) => false,
-    }
 }
 
 // Whether the device o may be attached to the record h.
@@ -144,7 +96,7 @@ fn home_good(h: Object, o: Object) -> bool
     let k = h.kind;
     let l = o.reserved;
     let allow = h.allow;
-    both(is_space(k), !lists_touch(l, allow))
+    command::both(table::is_space(k), !table::lists_touch(l, allow))
 }
 
 // h is the record that the device names, where it names one of the 32.
@@ -153,7 +105,7 @@ fn attach_good(h: Object, o: Object, a: Attachment) -> bool
 {
     match a {
         Attachment::Loose => true,
-        Attachment::Attached(s) => both(1 <= s, both(s <= 32, home_good(h, o))),
+        Attachment::Attached(s) => command::both(1 <= s, command::both(s <= 32, home_good(h, o))),
     }
 }
 
@@ -163,11 +115,14 @@ fn object_good(h: Object, o: Object) -> bool
 {
     let k = o.kind;
     match k {
-        Kind::Free => both(no_device(o), no_list(o)),
-        Kind::Space => both(list_valid(o), both(no_device(o), allow_rest(o))),
-        Kind::Device(a) => both(
+        Kind::Free => command::both(no_device(o), no_list(o)),
+        Kind::Space => command::both(list_valid(o), command::both(no_device(o), allow_rest(o))),
+        Kind::Device(a) => command::both(
             device_valid(o),
-            both(attach_good(h, o, a), both(reserved_rest(o), no_list(o))),
+            command::both(
+                attach_good(h, o, a),
+                command::both(reserved_rest(o), no_list(o)),
+            ),
         ),
     }
 }

@@ -37,7 +37,7 @@ pub fn is_found(f: Found) -> bool
 }
 
 // How many of `room` places a count names.
-fn used(count: u32, room: usize) -> usize
+pub fn used(count: u32, room: usize) -> usize
     ensures { λ n. ⌜ n ≡ min count room ⌝ }
 {
     let n = count as usize;

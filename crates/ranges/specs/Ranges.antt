@@ -1,12 +1,12 @@
 -- Intervals with an inclusive last address (document 01, "Commands and their bytes"), said once for mappings, reserved ranges and allow lists.
 -- A range whose start is above its last holds no address. The laws after each definition pin it to the addresses that a range holds.
-use Prim.Native.Nat.{ℕ, zero, suc, _+_, _-_, _≤_, _<_, _^_, min, max}
-use mathlib.Core.Path.{_≡_, refl, sym, ap, _∙_}
+use Prim.Native.Nat.{ℕ, suc, _+_, _-_, _≤_, _<_, _^_, min, max}
+use mathlib.Core.Path.{_≡_, ap, _∙_}
 use mathlib.Core.Bool.{Bool, true, false, _&&_}
 use native.Mathlib.Omega.{arith}
 use lib.Dec.{leb, ltb}
-use borrow.Author.Tests.{leb-true, leb-false, ltb-true, ltb-false, le-leb, lt-leb, lt-ltb, le-ltb}
-use Rattle.lists.specs.Tests.{by-test, contrary, same-test, leb-iff, and-left, and-right, and-both}
+use borrow.Author.Tests.{leb-true, ltb-false, le-leb}
+use Rattle.lists.specs.Tests.{contrary, same-test, leb-iff, and-left, and-right, and-both}
 use Rattle.lists.specs.Below.{countBelow, countBelow-cong, countBelow-run}
 use Rattle.ranges.specs.declared.Range.{Range}
 

@@ -1,4 +1,3 @@
-pub mod Bits
 pub mod Choosing
 pub mod Touching
 pub mod Comparing

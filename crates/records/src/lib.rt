@@ -1,13 +1,12 @@
 // The mapping records of a table, checked: each by itself, each backing, and each pair.
 // Every function takes the array once; its loops hand on elements and numbers only.
 ghost use mathlib.Core.Path.{_≡_};
-ghost use mathlib.Core.Bool.{true, _&&_, _||_};
+ghost use mathlib.Core.Bool.{true};
 ghost use Prim.Native.Nat.{_+_, _≤_, _<_, _^_, min};
 ghost use lib.ListN.{getD};
 ghost use Rattle.lists.specs.Search.{all};
 ghost use Rattle.lists.specs.Pairs.{clashes};
 ghost use Rattle.ranges.specs.Ranges.{range, lastOf};
-ghost use Rattle.command.specs.Flags.{bit};
 ghost use Rattle.table.specs.Records.{touches};
 ghost use Rattle.table.specs.Good.{together, lengthFits, rightsFit, endsFit, differ};
 ghost use Rattle.table.specs.Checked.{recordAlone};
@@ -22,72 +21,57 @@ pub enum Charged {
     Sum(u64),
 }
 
-fn both(a: bool, b: bool) -> bool
-    ensures { λ r. ⌜ r ≡ (a && b) ⌝ }
-{
-    if a { b } else { false }
-}
-
-fn either(a: bool, b: bool) -> bool
-    ensures { λ r. ⌜ r ≡ (a || b) ⌝ }
-{
-    if a { true } else { b }
-}
-
 // ---- each record by itself
 
 fn length_fits(m: Mapping) -> bool
     ensures { λ b. ⌜ b ≡ lengthFits m ⌝ }
 {
-    both(0 < m.length, m.length <= 0x100_0000_0000)
+    command::both(0 < m.length, m.length <= 0x100_0000_0000)
 }
 
 fn rights_fit(m: Mapping) -> bool
     ensures { λ b. ⌜ b ≡ rightsFit m ⌝ }
 {
-    both(0 < m.rights, m.rights <= 3)
+    command::both(0 < m.rights, m.rights <= 3)
 }
 
 // Neither the addresses nor the memory pass U64MAX.
 fn ends_fit(m: Mapping) -> bool
     ensures { λ b. ⌜ b ≡ endsFit m ⌝ }
 {
-    both(
+    command::both(
         !ranges::passes_max(m.address, m.length),
         !ranges::passes_max(m.memory, m.length),
     )
-}
-
-fn can_write(rights: u32) -> bool
-    ensures { λ b. ⌜ b ≡ bit 0 rights ⌝ }
-{
-    rights & 1 == 1
 }
 
 // A mapping that writes has a writeable founder.
 fn is_founded(m: Mapping) -> bool
     ensures { λ b. ⌜ b ≡ founded m ⌝ }
 {
-    both(m.founder <= 1, either(!can_write(m.rights), m.founder == 1))
+    command::both(
+        m.founder <= 1,
+        command::either(!table::can_write(m), m.founder == 1),
+    )
 }
 
 fn is_number(backing: u32) -> bool
     ensures { λ b. ⌜ b ≡ isNumber backing ⌝ }
 {
-    both(1 <= backing, backing <= 128)
+    command::both(1 <= backing, backing <= 128)
 }
 
 // A released record holds nothing.
 fn is_zero(m: Mapping) -> bool
     ensures { λ b. ⌜ b ≡ zeroFields m ⌝ }
 {
-    both(
+    command::both(
         m.rights == 0,
-        both(
+        command::both(
             m.founder == 0,
-            both(
+            command::both(
                 m.backing == 0,
-                both(m.address == 0, both(m.length == 0, m.memory == 0)),
+                command::both(m.address == 0, command::both(m.length == 0, m.memory == 0)),
             ),
         ),
     )
@@ -98,10 +82,13 @@ fn is_sound(page: u64, m: Mapping) -> bool
     ensures { λ b. ⌜ b ≡ sound page m ⌝ }
 {
     let fit = alignment::is_fit(page, m.address, m.length);
-    let rest = both(fit, both(is_founded(m), is_number(m.backing)));
-    both(
+    let rest = command::both(fit, command::both(is_founded(m), is_number(m.backing)));
+    command::both(
         page != 0,
-        both(length_fits(m), both(rights_fit(m), both(ends_fit(m), rest))),
+        command::both(
+            length_fits(m),
+            command::both(rights_fit(m), command::both(ends_fit(m), rest)),
+        ),
     )
 }
 
@@ -203,13 +190,13 @@ pub fn some_together(ms: [Mapping; 128]) -> bool
 fn differs(m: Mapping, n: Mapping) -> bool
     ensures { λ b. ⌜ b ≡ differ m n ⌝ }
 {
-    let same = both(
+    let same = command::both(
         m.memory == n.memory,
-        both(m.length == n.length, m.founder == n.founder),
+        command::both(m.length == n.length, m.founder == n.founder),
     );
-    both(
+    command::both(
         m.space != 0,
-        both(n.space != 0, both(m.backing == n.backing, !same)),
+        command::both(n.space != 0, command::both(m.backing == n.backing, !same)),
     )
 }
 

@@ -1,7 +1,7 @@
 -- What each return of a command gives: a refusal at the gate, or the outcome of the edit that was decided.
-use Prim.Native.Nat.{ℕ, zero, suc, _+_, _≤_, _<_}
+use Prim.Native.Nat.{ℕ, zero, suc, _≤_, _<_}
 use mathlib.Core.Path.{_≡_, refl, sym, ap, _∙_}
-use mathlib.Core.Bool.{Bool, true, false, cond}
+use mathlib.Core.Bool.{Bool, true, false}
 use mathlib.Core.List.{List}
 use native.Mathlib.Omega.{arith}
 use lib.Dec.{eqb}
@@ -9,12 +9,11 @@ use lib.ListN.{length}
 use borrow.Author.Tests.{eq-eqb, ne-eqb}
 use Rattle.lists.specs.Checks.{first}
 use Rattle.command.specs.declared.Command.{Command}
-use Rattle.command.specs.declared.Command.the-variants.{Destroy, IoasAlloc, AllowIovas, Copy, IovaRanges, Map, Unmap}
 use Rattle.command.specs.declared.Opening.{Opening}
 use Rattle.command.specs.declared.Opening.the-variants.{UnknownRequest, NoSizeField, SizeTooSmall, SizePastBytes, TailNotZero, Open}
 use Rattle.command.specs.Requests.{requestOf, lookup}
 use Rattle.command.specs.Opening.{opened, openingErrno}
-use Rattle.command.specs.Opened.{Opened, opened-open}
+use Rattle.command.specs.Opened.{opened-open}
 use Rattle.command.proofs.Lookups.{listed}
 use Rattle.wire.specs.Fields.{field, put}
 use Rattle.table.specs.declared.Object.{Object}

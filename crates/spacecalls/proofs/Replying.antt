@@ -1,5 +1,5 @@
 -- IOVA_RANGES: the reply, the checks before it, and the gate before them.
-use Prim.Native.Nat.{ℕ, zero, suc, _+_, _*_, _≤_, _<_, min}
+use Prim.Native.Nat.{ℕ, zero, suc, _*_, _≤_, min}
 use mathlib.Core.Path.{_≡_, refl, sym, ap, _∙_}
 use mathlib.Core.Bool.{Bool, true, false, cond}
 use mathlib.Core.List.{List, [], _∷_}
@@ -9,7 +9,7 @@ use lib.IntN.{ℤ}
 use lib.ListN.{length, take}
 use borrow.Author.Tests.{ltb-false, ne-eqb}
 use Rattle.lists.specs.Tests.{by-test}
-use Rattle.lists.specs.Checks.{Check, when, first, first-each, first-fires, first-passes, Refusals, passed}
+use Rattle.lists.specs.Checks.{Check, when, first, first-each, Refusals, passed}
 use Rattle.ranges.specs.declared.Range.{Range}
 use Rattle.wire.specs.Fields.{field, put}
 use Rattle.command.specs.declared.Opening.{Opening}
@@ -24,7 +24,7 @@ use Rattle.freeranges.specs.Written.{putRanges}
 use Rattle.table.specs.declared.Object.{Object}
 use Rattle.table.specs.declared.Table.{Table}
 use Rattle.table.specs.Good.{good}
-use Rattle.table.specs.Spaces.{alignment, reservedOf}
+use Rattle.table.specs.Spaces.{alignment}
 use Rattle.facts.specs.Gathered.{Gathered}
 use Rattle.spaces.specs.Ranges.{freeOf, rangesChecks, rangesErrno, repliesTo, rangesBytes, rangesArea}
 use Rattle.spaces.proofs.Listing.{first-stays, first-goes}

@@ -1,6 +1,6 @@
 -- What comes before every command (document 01, "Opening a command, in order"): a bad table is 117, then the opening.
 use Prim.Native.Nat.{ℕ}
-use mathlib.Core.Bool.{Bool, true, false, cond}
+use mathlib.Core.Bool.{cond}
 use mathlib.Core.List.{List}
 use Rattle.command.specs.Opening.{opened, openingErrno}
 use Rattle.table.specs.declared.Table.{Table}

@@ -1,13 +1,13 @@
 -- No command on spaces makes a bad table out of a good one, and a command on one space leaves the others as they were. IOVA_RANGES gives back no table.
-use Prim.Native.Nat.{ℕ, zero, suc}
-use mathlib.Core.Path.{_≡_, refl, sym, ap, _∙_}
-use mathlib.Core.Bool.{Bool, true, false}
+use Prim.Native.Nat.{ℕ}
+use mathlib.Core.Path.{_≡_, ap}
+use mathlib.Core.Bool.{true}
 use mathlib.Core.List.{List}
 use Rattle.wire.specs.Fields.{field}
 use Rattle.table.specs.declared.Table.{Table}
 use Rattle.table.specs.Records.{spaceAt}
 use Rattle.table.specs.Good.{good}
-use Rattle.table.specs.Sound.{Sound, good-sound, sound-good}
+use Rattle.table.specs.Sound.{good-sound, sound-good}
 use Rattle.edits.specs.Edits.{settle, applied}
 use Rattle.edits.specs.Answers.{outcome}
 use Rattle.edits.specs.Kept.{settle-sound}

@@ -1,9 +1,8 @@
 // The four commands that place no mapping. Each takes any table and any bytes: a bad table is 117, then the opening, then the command's own
 // checks; the table that comes back is the one given where the command refuses.
 ghost use mathlib.Core.Path.{_≡_};
-ghost use Prim.Native.Nat.{_*_, _≤_, _<_, _^_};
+ghost use Prim.Native.Nat.{_*_, _≤_, _<_};
 ghost use lib.ListN.{length};
-ghost use Rattle.edits.specs.Answers.{outcome};
 ghost use Rattle.spacecalls.specs.Gate.{gateErrno};
 ghost use Rattle.spacecalls.specs.Calls.{allocAnswer, allocBytes, destroyAnswer, allowAnswer, RangesReply, RangesDone, rangesResult, rangesReply, rangesWritten, idWritten};
 use edits::Answer;
@@ -99,7 +98,7 @@ fn answer_ranges(os: [Object; 32], cmd: &mut [u8], area: &mut [u8]) -> u8
         return refused;
     }
     let full = write_ranges(os, space, count, cmd, area);
-    lookups::refuse_if((count as usize) < full, 90, 0)
+    command::refuse_if((count as usize) < full, 90, 0)
 }
 
 // IOVA_RANGES: what no attached device reserves, as the fewest ascending ranges, with the alignment.

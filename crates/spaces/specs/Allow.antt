@@ -1,7 +1,7 @@
 -- ALLOW_IOVAS: reserved field 95; no space 2; count over 8: 12; range area short 14; a start above its last, or two ranges that overlap: 22;
 -- a range that touches reserved: 98. The list is replaced, in the order given; count 0 empties it.
-use Prim.Native.Nat.{ℕ, zero, suc, _+_, _-_, _*_, _≤_, _<_}
-use mathlib.Core.Bool.{Bool, true, false, not, _||_, cond}
+use Prim.Native.Nat.{ℕ, zero, suc, _+_, _-_, _*_}
+use mathlib.Core.Bool.{Bool, not, _||_, cond}
 use mathlib.Core.List.{List, [], _∷_, _++_}
 use lib.Dec.{ltb, eqb}
 use lib.ListN.{length}

@@ -1,7 +1,7 @@
 -- A command on one space changes no mapping, list or device of another. IOVA_RANGES changes nothing of the table.
-use Prim.Native.Nat.{ℕ, zero, suc, _-_, _<_}
+use Prim.Native.Nat.{ℕ, suc, _-_, _<_}
 use mathlib.Core.Path.{_≡_, refl, sym, ap, _∙_}
-use mathlib.Core.Bool.{Bool, true, false}
+use mathlib.Core.Bool.{true, false}
 use mathlib.Core.List.{List}
 use native.Mathlib.Omega.{arith}
 use lib.ListN.{getD}
@@ -13,14 +13,14 @@ use Rattle.table.specs.declared.Kind.{Kind}
 use Rattle.table.specs.declared.Kind.the-variants.{Free, Space, Device}
 use Rattle.table.specs.declared.Object.{Object}
 use Rattle.table.specs.declared.Table.{Table}
-use Rattle.table.specs.Records.{freeObject, newSpace, isFree, isAttached, objectAt, spaceAt, attachedTo}
+use Rattle.table.specs.Records.{freeObject, newSpace, isAttached, objectAt, spaceAt, attachedTo}
 use Rattle.table.specs.Charge.{freeRecord}
 use Rattle.table.specs.Sound.{Sound}
 use Rattle.table.specs.Replaced.{objectAt-place, spaceAt-place}
-use Rattle.edits.specs.declared.Change.the-variants.{Put, Drop}
+use Rattle.edits.specs.declared.Change.the-variants.{Put}
 use Rattle.edits.specs.Edits.{accept, placed, applied}
 use Rattle.edits.specs.Untouched.{Untouched, settle-untouched, put-untouched, drop-untouched, placed-untouched}
-use Rattle.spaces.specs.Objects.{allocChecks, allocEdit, inUse, destroyChecks, removal, destroyEdit}
+use Rattle.spaces.specs.Objects.{allocChecks, allocEdit, destroyChecks, removal, destroyEdit}
 use Rattle.spaces.specs.Allow.{areaList, withAllow, allowChecks, allowEdit}
 use Rattle.spaces.specs.Kept.{object-place, is-object, is-loose, allow-space, is-kind}
 

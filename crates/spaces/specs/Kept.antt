@@ -1,42 +1,41 @@
 -- IOAS_ALLOC, DESTROY and ALLOW_IOVAS keep a good table good.
 use Prim.Native.Nat.{ℕ, zero, suc, _+_, _-_, _*_, _≤_, _<_, min}
-use mathlib.Core.Path.{_≡_, refl, sym, ap, subst, _∙_}
-use mathlib.Core.Bool.{Bool, true, false, not, _&&_, _||_, cond}
+use mathlib.Core.Path.{_≡_, refl, sym, ap, _∙_}
+use mathlib.Core.Bool.{Bool, true, false, not, _&&_, cond}
 use mathlib.Core.List.{List, [], _∷_}
 use native.Mathlib.Omega.{arith}
 use lib.Dec.{leb, ltb, eqb}
 use lib.ListN.{getD, set, drop, List·getD-eq-default}
 use lib.ListN as ListN
-use borrow.Author.Tests.{eqb-true, eqb-false, leb-true, leb-false, le-leb, ltb-false, le-ltb, not-true, not-false}
+use borrow.Author.Tests.{eqb-true, eqb-false, leb-true, leb-false, le-leb, ltb-false, le-ltb, not-false}
 use Rattle.lists.specs.Tests.{by-test, contrary, and-left, and-right, and-both, or-not-left, or-not-right}
 use Rattle.lists.specs.Search.{any, all}
-use Rattle.lists.specs.Each.{Each, Each-imp, Each-of, Each-any-false, Each-zip}
+use Rattle.lists.specs.Each.{Each, Each-imp, Each-of, Each-any-false}
 use Rattle.lists.specs.Pairs.{clashes}
 use Rattle.lists.specs.Checks.{Check, when, first, passed}
 use Rattle.ranges.specs.declared.Range.{Range}
 use Rattle.ranges.specs.Ranges.{share}
-use Rattle.rangelists.specs.declared.Allowed.{Allowed}
 use Rattle.rangelists.specs.Listed.{listed, reserved, allowed, valid, overlap}
 use Rattle.wire.specs.Fields.{field, zeros}
-use Rattle.table.specs.declared.Attachment.the-variants.{Loose, Attached}
+use Rattle.table.specs.declared.Attachment.the-variants.{Attached}
 use Rattle.table.specs.declared.Kind.{Kind}
 use Rattle.table.specs.declared.Kind.the-variants.{Free, Space, Device}
 use Rattle.table.specs.declared.Object.{Object}
 use Rattle.table.specs.declared.Mapping.{Mapping}
 use Rattle.table.specs.declared.Table.{Table}
-use Rattle.table.specs.Records.{freeObject, newSpace, isFree, isSpace, isDevice, isAttached, objectAt, spaceAt, attachedTo, used}
+use Rattle.table.specs.Records.{freeObject, newSpace, isFree, isSpace, isAttached, objectAt, spaceAt, attachedTo}
 use Rattle.table.specs.Spaces.{reservedFor, reservedOf, any-reservedOf}
 use Rattle.table.specs.Charge.{freeRecord}
 use Rattle.table.specs.Good.{kindNames, deviceBy, listBy, listClearBy, zeroBy, deviceNames, deviceValid, listValid, listClear, objectZero, noDevice, noList, reservedRest, allowRest, listsTouch}
-use Rattle.table.specs.Checked.{objectOk, objectsOk}
+use Rattle.table.specs.Checked.{objectOk}
 use Rattle.table.specs.Sound.{Sound}
 use Rattle.table.specs.Facts.{UsedOk}
-use Rattle.table.specs.Replaced.{object-at-ok, spaceAt-place, spaceAt-set-same, spaceAt-set-other, hosts-none, none-attached, Hosts}
+use Rattle.table.specs.Replaced.{object-at-ok, spaceAt-place, spaceAt-set-same, spaceAt-set-other, hosts-none, Hosts}
 use Rattle.table.specs.Moved.{Quiet}
-use Rattle.edits.specs.declared.Change.the-variants.{Put, Drop}
+use Rattle.edits.specs.declared.Change.the-variants.{Put}
 use Rattle.edits.specs.declared.Edit.{Edit}
-use Rattle.edits.specs.Edits.{refuse, accept, settle, placed, putObject, dropSpace, applied}
-use Rattle.edits.specs.Kept.{Bears, AllBorne, put-sound, drop-sound, free-ok, quiet-bears, elsewhere, settle-sound, placed-sound}
+use Rattle.edits.specs.Edits.{accept, settle, placed, putObject, applied}
+use Rattle.edits.specs.Kept.{put-sound, drop-sound, free-ok, quiet-bears, elsewhere, settle-sound, placed-sound}
 use Rattle.spaces.specs.Objects.{allocChecks, allocEdit, inUse, destroyChecks, removal, destroyEdit}
 use Rattle.spaces.specs.Allow.{numberAt, column, areaList, withAllow, numberChecks, listChecks, allowChecks, allowEdit}
 

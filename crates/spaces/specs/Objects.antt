@@ -1,6 +1,6 @@
 -- IOAS_ALLOC: flags 95; no record 12. DESTROY: no object 2; an attached device, or a space with one, 16; a space's mappings go with it.
-use Prim.Native.Nat.{ℕ, zero, suc, _+_, _-_}
-use mathlib.Core.Bool.{Bool, true, false, not, _||_}
+use Prim.Native.Nat.{ℕ, _-_}
+use mathlib.Core.Bool.{Bool, not, _||_}
 use mathlib.Core.List.{List, [], _∷_}
 use lib.Dec.{eqb}
 use Rattle.lists.specs.Search.{any}

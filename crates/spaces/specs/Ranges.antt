@@ -1,7 +1,7 @@
 -- IOVA_RANGES: reserved field 95; no space 2; range area shorter than 16 times count 14. The list is what is not reserved, as the fewest ranges,
 -- ascending. Count becomes the full number and alignment is written; as many ranges as count allowed are written; 90 if some had no room.
-use Prim.Native.Nat.{ℕ, zero, suc, _+_, _*_, _≤_, _<_}
-use mathlib.Core.Bool.{Bool, true, false, not, cond}
+use Prim.Native.Nat.{ℕ, _*_}
+use mathlib.Core.Bool.{Bool, true, not, cond}
 use mathlib.Core.List.{List, [], _∷_}
 use lib.Dec.{ltb, eqb}
 use lib.ListN.{length, take}

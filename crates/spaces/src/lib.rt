@@ -18,7 +18,7 @@ use table::Object;
 pub fn decide_alloc(os: [Object; 32], flags: u32) -> Edit
     ensures { λ e. ⌜ e ≡ allocEdit os flags ⌝ }
 {
-    let errno = lookups::refuse_if(flags != 0, 95, 0);
+    let errno = command::refuse_if(flags != 0, 95, 0);
     if errno != 0 {
         return edits::refusal(errno);
     }
@@ -48,8 +48,8 @@ pub fn decide_destroy(os: [Object; 32], id: u32) -> Edit
 {
     let o = lookups::object_at(os, id);
     let k = o.kind;
-    let used = lookups::either(lookups::is_attached(k), lookups::has_device(os, id));
-    let errno = lookups::refuse_if(lookups::is_free(k), 2, lookups::refuse_if(used, 16, 0));
+    let used = command::either(table::is_attached(k), lookups::has_device(os, id));
+    let errno = command::refuse_if(table::is_free(k), 2, command::refuse_if(used, 16, 0));
     if errno != 0 {
         return edits::refusal(errno);
     }
@@ -105,11 +105,11 @@ fn device_touches(o: Object, s: u32, l: Allowed) -> bool
     ensures { λ b. ⌜ b ≡ touchesList s (allowed l) o ⌝ }
 {
     let k = o.kind;
-    if !lookups::attached_to(k, s) {
+    if !table::attached_to(k, s) {
         return false;
     }
     let r = o.reserved;
-    lookups::lists_touch(r, l)
+    table::lists_touch(r, l)
 }
 
 // Whether a reserved range of the space touches the list.
@@ -144,16 +144,16 @@ fn number_errno(os: [Object; 32], space: u32, count: u32, zero: u32, room: usize
     ensures { λ r. ⌜ r ≡ first (numberChecks os space count zero room) 0 ⌝ }
 {
     let known = lookups::space_at(os, space);
-    lookups::refuse_if(
+    command::refuse_if(
         zero != 0,
         95,
-        lookups::refuse_if(
+        command::refuse_if(
             !known,
             2,
-            lookups::refuse_if(
+            command::refuse_if(
                 8 < count,
                 12,
-                lookups::refuse_if(room < 16 * (count as usize), 14, 0),
+                command::refuse_if(room < 16 * (count as usize), 14, 0),
             ),
         ),
     )
@@ -162,12 +162,12 @@ fn number_errno(os: [Object; 32], space: u32, count: u32, zero: u32, room: usize
 fn list_errno(os: [Object; 32], space: u32, l: Allowed) -> u8
     ensures { λ r. ⌜ r ≡ first (listChecks os space l) 0 ⌝ }
 {
-    let wrong = lookups::either(
+    let wrong = command::either(
         !rangelists::allowed_valid(l),
         rangelists::allowed_overlap(l),
     );
     let touches = reserved_touches(os, space, l);
-    lookups::refuse_if(wrong, 22, lookups::refuse_if(touches, 98, 0))
+    command::refuse_if(wrong, 22, command::refuse_if(touches, 98, 0))
 }
 
 pub fn decide_allow(os: [Object; 32], space: u32, count: u32, zero: u32, area: &[u8]) -> Edit
@@ -191,13 +191,13 @@ pub fn ranges_errno(os: [Object; 32], space: u32, count: u32, zero: u32, room: u
     ensures { λ r. ⌜ r ≡ first (rangesChecks os space count zero room) 0 ⌝ }
 {
     let known = lookups::space_at(os, space);
-    lookups::refuse_if(
+    command::refuse_if(
         zero != 0,
         95,
-        lookups::refuse_if(
+        command::refuse_if(
             !known,
             2,
-            lookups::refuse_if(room < 16 * (count as usize), 14, 0),
+            command::refuse_if(room < 16 * (count as usize), 14, 0),
         ),
     )
 }

@@ -1,12 +1,12 @@
 -- The charge of a sound list of records, by the witness of its backings; and the lowest free backing number, which is there whenever a record is free.
-use Prim.Native.Nat.{ℕ, zero, suc, _+_, _≤_, _<_, zero-le}
+use Prim.Native.Nat.{ℕ, zero, suc, _+_, _≤_, _<_}
 use mathlib.Core.Path.{_≡_, refl, sym, ap, subst, _∙_}
-use mathlib.Core.Bool.{Bool, true, false, not, _&&_, _||_, cond}
+use mathlib.Core.Bool.{Bool, true, false, not, _&&_, _||_}
 use mathlib.Core.List.{List, [], _∷_, map}
-use mathlib.Core.Option.{Option, none, some}
+use mathlib.Core.Option.{none, some}
 use native.Mathlib.Numerals.{add-one}
 use native.Mathlib.Omega.{arith}
-use lib.Dec.{leb, ltb, eqb}
+use lib.Dec.{eqb}
 use lib.ListN as ListN
 use borrow.Author.Tests.{eqb-true, ne-eqb}
 use Rattle.lists.specs.Tests.{by-test, onlyIf, onlyIf-mono, onlyIf-true, onlyIf-false, and-right}
@@ -22,7 +22,7 @@ use Rattle.table.specs.Records.{zeroMapping, used}
 use Rattle.table.specs.Charge.{backs, mappingPages, pagesFound, backingPages, chargeIn, charge, freeMapping, freeBacking}
 use Rattle.table.specs.Checked.{recordOk}
 use Rattle.table.specs.Sound.{Backing, Shares, Agree}
-use Rattle.table.specs.Facts.{UsedOk, record-used, record-free}
+use Rattle.table.specs.Facts.{record-free}
 use Rattle.table.specs.Cleared.{release, release-true, release-false, release-records, release-agree}
 use Rattle.table.specs.Once.{countOf-some, countOf-at, countOf-not}
 

@@ -1,14 +1,14 @@
 -- The same rules in the groups in which they are checked: objects one by one, records one by one, pairs of records, and the limit.
 -- `good-grouped` says that nothing is lost.
-use Prim.Native.Nat.{ℕ, zero, suc, _+_, _≤_, _<_, _^_}
-use mathlib.Core.Path.{_≡_, refl, sym, ap, _∙_}
+use Prim.Native.Nat.{ℕ}
+use mathlib.Core.Path.{_≡_, refl, ap, _∙_}
 use mathlib.Core.Bool.{Bool, true, false, not, _&&_, _||_, cond}
-use mathlib.Core.List.{List, [], _∷_}
-use lib.Dec.{leb, ltb, eqb}
-use borrow.Author.Tests.{ne-eqb, eq-eqb}
+use mathlib.Core.List.{List}
+use lib.Dec.{leb, eqb}
+use borrow.Author.Tests.{ne-eqb}
 use native.Mathlib.Omega.{arith}
 use Rattle.lists.specs.Tests.{by-test, same-test, and-left, and-right, and-both}
-use Rattle.lists.specs.Search.{any, all, all-and}
+use Rattle.lists.specs.Search.{all, all-and}
 use Rattle.table.specs.declared.Object.{Object}
 use Rattle.table.specs.declared.Mapping.{Mapping}
 use Rattle.table.specs.declared.Table.{Table}

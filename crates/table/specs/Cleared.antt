@@ -1,27 +1,21 @@
 -- Mapping records that are released: every rule stays, and the charge does not grow.
-use Prim.Native.Nat.{ℕ, zero, suc, _+_, _≤_, _<_, zero-le}
-use mathlib.Core.Path.{_≡_, refl, sym, ap, subst, _∙_}
-use mathlib.Core.Bool.{Bool, true, false, not, _&&_, _||_, cond}
-use mathlib.Core.List.{List, [], _∷_, map}
-use mathlib.Core.Option.{Option, none, some}
+use Prim.Native.Nat.{ℕ, zero, _≤_, zero-le}
+use mathlib.Core.Path.{_≡_, refl, ap}
+use mathlib.Core.Bool.{Bool, true, false, not, cond}
+use mathlib.Core.List.{List, map}
 use native.Mathlib.Nat.{le-of-eq}
 use native.Mathlib.Omega.{arith}
-use lib.Dec.{leb, eqb}
-use borrow.Author.Tests.{eqb-true}
-use Rattle.lists.specs.Tests.{by-test, contrary, onlyIf, onlyIf-le, and-left, and-right}
-use Rattle.lists.specs.Search.{any, all, find, find-some, find-any-true, find-any-false, any-at}
-use Rattle.lists.specs.Each.{Each, Each-imp, Each-map, Each-of, Each-zip}
+use Rattle.lists.specs.Tests.{by-test, contrary, onlyIf}
+use Rattle.lists.specs.Each.{Each, Each-map, Each-of}
 use Rattle.lists.specs.Sums.{sumOf, countOf, sumOf-le}
-use Rattle.lists.specs.Below.{sumBelow, sumBelow-le}
 use Rattle.lists.specs.Update.{sumOf-map}
-use Rattle.ranges.specs.Pages.{pagesTouched}
 use Rattle.table.specs.declared.Object.{Object}
 use Rattle.table.specs.declared.Mapping.{Mapping}
 use Rattle.table.specs.Records.{zeroMapping, used}
-use Rattle.table.specs.Charge.{backs, mappingPages, pagesFound, backingPages, chargeIn, charge}
+use Rattle.table.specs.Charge.{charge}
 use Rattle.table.specs.Checked.{recordOk}
 use Rattle.table.specs.Sound.{covers, Backing, Shares, Agree}
-use Rattle.table.specs.Facts.{UsedOk, record-used, record-free, zero-record}
+use Rattle.table.specs.Facts.{zero-record}
 
 -- a record released where it passes p
 unfoldable pub release : (Mapping → Bool) → Mapping → Mapping

@@ -1,12 +1,11 @@
 -- What is known of one mapping record of a good table: a used one keeps every rule, a released one is all zero.
-use Prim.Native.Nat.{ℕ, zero, suc, _+_, _≤_, _<_, _^_}
+use Prim.Native.Nat.{ℕ, zero, _≤_, _<_, _^_}
 use mathlib.Core.Path.{_≡_, refl, sym, ap, _∙_}
 use mathlib.Core.Bool.{Bool, true, false, not, _&&_, _||_}
-use mathlib.Core.List.{List, [], _∷_}
-use native.Mathlib.Omega.{arith}
+use mathlib.Core.List.{List}
 use lib.Dec.{leb, ltb, eqb}
 use borrow.Author.Tests.{leb-true, le-leb, ltb-true, lt-ltb, eqb-true, eq-eqb, not-true, not-false}
-use Rattle.lists.specs.Tests.{by-test, contrary, and-left, and-right, and-both, or-left, or-right, or-other}
+use Rattle.lists.specs.Tests.{by-test, and-left, and-right, or-left, or-right, or-other}
 use Rattle.lists.specs.Search.{any}
 use Rattle.ranges.specs.Ranges.{share, passes}
 use Rattle.alignment.specs.Multiples.{fits}

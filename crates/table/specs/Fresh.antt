@@ -1,12 +1,12 @@
 -- A fresh table is good, for every limit from 0 to 2^36.
-use Prim.Native.Nat.{ℕ, _+_, _≤_, _<_, _^_, zero-le}
-use mathlib.Core.Path.{_≡_, refl, sym, ap, _∙_}
-use mathlib.Core.Bool.{Bool, true, false, not, _&&_, _||_}
-use mathlib.Core.List.{List, [], _∷_}
+use Prim.Native.Nat.{ℕ, _≤_, _^_}
+use mathlib.Core.Path.{_≡_, refl, ap}
+use mathlib.Core.Bool.{true, false}
+use mathlib.Core.List.{List}
 use native.Mathlib.Omega.{arith}
 use lib.ListN.{replicate, length-replicate}
 use Rattle.lists.specs.Tests.{contrary, onlyIf}
-use Rattle.lists.specs.Search.{any, all, find}
+use Rattle.lists.specs.Search.{all, find}
 use Rattle.lists.specs.Each.{Each-replicate}
 use Rattle.lists.specs.Sums.{countOf, sumOf, sumOf-replicate}
 use Rattle.lists.specs.Below.{sumBelow}
@@ -17,7 +17,7 @@ use Rattle.table.specs.Records.{freeObject, zeroMapping, used, freshTabl
 use Rattle.table.specs.Charge.{backs, backingPages, chargeIn, charge}
 use Rattle.table.specs.Good.{deviceNames, deviceValid, listValid, listClear, objectZero, noDevice, noList, reservedRest, allowRest, good}
 use Rattle.table.specs.Checked.{objectOk, objectsOk, recordOk}
-use Rattle.table.specs.Sound.{Sound, Shares, Backing, covers, sound-good}
+use Rattle.table.specs.Sound.{Shares, covers, sound-good}
 use Rattle.table.specs.Facts.{zero-record}
 
 fresh-objects : objectsOk (replicate 32 freeObject) ≡ true

@@ -1,11 +1,10 @@
 -- Mapping records after an object record is replaced: what the new object asks of a mapping is all that has to be looked at.
-use Prim.Native.Nat.{ℕ, zero, suc, _+_, _≤_, _<_}
-use mathlib.Core.Path.{_≡_, refl, sym, ap, _∙_}
-use mathlib.Core.Bool.{Bool, true, false, not, _&&_, _||_, cond}
-use mathlib.Core.List.{List, [], _∷_}
+use Prim.Native.Nat.{ℕ, _+_}
+use mathlib.Core.Path.{_≡_, sym, ap, _∙_}
+use mathlib.Core.Bool.{Bool, true, false, not}
+use mathlib.Core.List.{List}
 use native.Mathlib.Nat.{mod-one}
-use lib.ListN.{length, getD, set}
-use Rattle.lists.specs.Tests.{by-test, contrary, and-left, and-right, and-both}
+use lib.ListN.{length, set}
 use Rattle.lists.specs.Search.{any, all, all-and, any-nil}
 use Rattle.lists.specs.Update.{any-set, all-set}
 use Rattle.ranges.specs.declared.Range.{Range}

@@ -1,28 +1,24 @@
 -- One object record is replaced: what stays true of the others, of alignment and of reserved ranges.
-use Prim.Native.Nat.{ℕ, zero, suc, _+_, _≤_, _<_, max}
+use Prim.Native.Nat.{ℕ, zero, suc, _<_}
 use mathlib.Core.Path.{_≡_, refl, sym, ap, _∙_}
-use mathlib.Core.Bool.{Bool, true, false, not, _&&_, _||_, cond}
-use mathlib.Core.List.{List, [], _∷_, _++_}
+use mathlib.Core.Bool.{Bool, true, false, not, _&&_}
+use mathlib.Core.List.{List, [], _∷_}
 use native.Mathlib.Nat.{le-of-suc-le-suc, not-suc-le-zero}
-use native.Mathlib.Omega.{arith}
 use lib.Dec.{leb, eqb}
-use lib.ListN.{length, getD, set, length-set, List·getD-eq-default}
+use lib.ListN.{length, getD, set, List·getD-eq-default}
 use lib.Seq.{getD-set-same, getD-set-other}
-use borrow.Author.Tests.{leb-true, leb-false, eqb-true, eqb-false, eq-eqb, not-true, not-false}
-use Rattle.lists.specs.Tests.{by-test, contrary, and-left, and-right, and-both}
+use borrow.Author.Tests.{leb-true, leb-false, eqb-true, eqb-false, eq-eqb, not-true}
+use Rattle.lists.specs.Tests.{by-test, contrary, and-left, and-right}
 use Rattle.lists.specs.Search.{any, all, all-at, any-place}
 use Rattle.lists.specs.Each.{Each, Each-imp, Each-set, Each-at, Each-zip, Each-all, all-Each, Each-any-false}
-use Rattle.ranges.specs.declared.Range.{Range}
-use Rattle.ranges.specs.Ranges.{share}
 use Rattle.rangelists.specs.Listed.{reserved, allowed}
-use Rattle.table.specs.declared.Attachment.{Attachment}
 use Rattle.table.specs.declared.Attachment.the-variants.{Loose, Attached}
 use Rattle.table.specs.declared.Kind.{Kind}
 use Rattle.table.specs.declared.Kind.the-variants.{Free, Space, Device}
 use Rattle.table.specs.declared.Object.{Object}
-use Rattle.table.specs.Records.{zeroObject, freeObject, isSpace, objectAt, spaceAt, attachedTo, attachedBy}
-use Rattle.table.specs.Spaces.{pageFor, alignment, reservedFor, reservedOf, any-reservedOf}
-use Rattle.table.specs.Good.{namesBy, kindNames, deviceNames, deviceBy, deviceValid, listBy, listValid, listsTouch, clearBy, listClearBy, listClear, zeroBy, objectZero}
+use Rattle.table.specs.Records.{zeroObject, freeObject, isSpace, objectAt, spaceAt, attachedTo}
+use Rattle.table.specs.Spaces.{alignment}
+use Rattle.table.specs.Good.{kindNames, deviceNames, deviceBy, deviceValid, listBy, listValid, listsTouch, listClearBy, listClear, zeroBy, objectZero}
 use Rattle.table.specs.Checked.{objectOk, objectsOk}
 
 -- a read within the list does not look at what is given past its end

@@ -1,21 +1,18 @@
 -- A good table in the form that proofs want: each address of a space is covered at most once, and what the mappings of a backing share is
 -- given by a witness. `good-sound` and `sound-good` say that it is the same as `good`.
-use Prim.Native.Nat.{ℕ, zero, suc, _+_, _≤_, _<_, _^_, zero-le}
+use Prim.Native.Nat.{ℕ, _≤_, _^_}
 use mathlib.Core.Path.{_≡_, refl, sym, ap, subst, _∙_}
-use mathlib.Core.Bool.{Bool, true, false, not, _&&_, _||_, cond}
+use mathlib.Core.Bool.{Bool, true, false, not, _&&_, cond}
 use mathlib.Core.List.{List, [], _∷_}
-use native.Mathlib.Omega.{arith}
 use lib.Dec.{leb, eqb}
 use lib.ListN as ListN
-use borrow.Author.Tests.{leb-true, le-leb, eqb-true, eq-eqb, eqb-false, not-true, not-false}
-use Rattle.lists.specs.Tests.{by-test, contrary, and-left, and-right, and-both, or-not-left, or-not-right}
+use borrow.Author.Tests.{leb-true, le-leb, eqb-true, eq-eqb, not-true, not-false}
+use Rattle.lists.specs.Tests.{by-test, and-left, and-right, and-both, or-not-left, or-not-right}
 use Rattle.lists.specs.Search.{any, all}
 use Rattle.lists.specs.Each.{Each, Each-imp, Each-zip, Each-all, all-Each, Each-any-false, any-Each-false}
 use Rattle.lists.specs.Pairs.{clashes}
 use Rattle.lists.specs.Sums.{countOf}
-use Rattle.lists.specs.Update.{upd, upd-same, upd-other}
 use Rattle.ranges.specs.Ranges.{holds, share, share-address, share-of}
-use Rattle.table.specs.declared.Object.{Object}
 use Rattle.table.specs.declared.Mapping.{Mapping}
 use Rattle.table.specs.declared.Table.{Table}
 use Rattle.table.specs.Records.{used, ofSpace, extent}

@@ -1,13 +1,11 @@
 -- What a space is made of (document 01, "Table"): its alignment, its reserved ranges.
-use Prim.Native.Nat.{ℕ, zero, suc, _+_, _≤_, _<_}
-use mathlib.Core.Path.{_≡_, refl, sym, ap, _∙_}
-use mathlib.Core.Bool.{Bool, true, false, not, _&&_, _||_, cond}
+use Prim.Native.Nat.{ℕ, _+_, _≤_}
+use mathlib.Core.Path.{_≡_, refl, ap, _∙_}
+use mathlib.Core.Bool.{Bool, _||_, cond}
 use mathlib.Core.List.{List, [], _∷_, _++_}
-use lib.Dec.{eqb}
 use Rattle.lists.specs.Tests.{by-test}
 use Rattle.lists.specs.Search.{any, any-append}
 use Rattle.ranges.specs.declared.Range.{Range}
-use Rattle.ranges.specs.Ranges.{share}
 use Rattle.alignment.specs.Pages.{smallestPage, Power, page-power}
 use Rattle.alignment.specs.Highest.{highest, highest-power, highest-pos}
 use Rattle.rangelists.specs.Listed.{reserved}

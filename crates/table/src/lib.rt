@@ -1,6 +1,11 @@
 // The records of the table. What a good table is, and what the calls ask of one, stands in specs/.
+ghost use mathlib.Core.Path.{_≡_};
+ghost use Rattle.rangelists.specs.Listed.{reserved, allowed};
+ghost use Rattle.table.specs.Records.{isFree, isSpace, isDevice, isAttached, attachedTo, homeOf, canWrite, canRead};
+ghost use Rattle.table.specs.Good.{listsTouch};
 use rangelists::Allowed;
 use rangelists::Reserved;
+use ranges::Range;
 
 // Whether a device is attached, and to which space.
 pub enum Attachment {
@@ -37,4 +42,106 @@ pub struct Table {
     pub limit: u64,
     pub objects: [Object; 32],
     pub mappings: [Mapping; 128],
+}
+
+pub fn is_free(k: Kind) -> bool
+    ensures { λ b. ⌜ b ≡ isFree k ⌝ }
+{
+    match k {
+        Kind::Free => true,
+        Kind::Space => false,
+        Kind::Device(_) => false,
+    }
+}
+
+pub fn is_space(k: Kind) -> bool
+    ensures { λ b. ⌜ b ≡ isSpace k ⌝ }
+{
+    match k {
+        Kind::Free => false,
+        Kind::Space => true,
+        Kind::Device(_) => false,
+    }
+}
+
+pub fn is_device(k: Kind) -> bool
+    ensures { λ b. ⌜ b ≡ isDevice k ⌝ }
+{
+    match k {
+        Kind::Free => false,
+        Kind::Space => false,
+        Kind::Device(_) => true,
+    }
+}
+
+pub fn is_attached(k: Kind) -> bool
+    ensures { λ b. ⌜ b ≡ isAttached k ⌝ }
+{
+    match k {
+        Kind::Free => false,
+        Kind::Space => false,
+        Kind::Device(a) => match a {
+            Attachment::Loose => false,
+            Attachment::Attached(_) => true,
+        },
+    }
+}
+
+// Whether it is a device that is attached to space s.
+pub fn attached_to(k: Kind, s: u32) -> bool
+    ensures { λ b. ⌜ b ≡ attachedTo s k ⌝ }
+{
+    match k {
+        Kind::Free => false,
+        Kind::Space => false,
+        Kind::Device(a) => match a {
+            Attachment::Loose => false,
+            Attachment::Attached(h) => h == s,
+        },
+    }
+}
+
+// The space that a device is attached to, 0 for any other object.
+pub fn home_of(k: Kind) -> u32
+    ensures { λ s. ⌜ s ≡ homeOf k ⌝ }
+{
+    match k {
+        Kind::Free => 0,
+        Kind::Space => 0,
+        Kind::Device(a) => match a {
+            Attachment::Loose => 0,
+            Attachment::Attached(h) => h,
+        },
+    }
+}
+
+pub fn can_write(m: Mapping) -> bool
+    ensures { λ b. ⌜ b ≡ canWrite m ⌝ }
+{
+    m.rights & 1 == 1
+}
+
+pub fn can_read(m: Mapping) -> bool
+    ensures { λ b. ⌜ b ≡ canRead m ⌝ }
+{
+    (m.rights >> 1) & 1 == 1
+}
+
+// Whether some reserved range shares an address with some range of an allow list.
+pub fn lists_touch(l: Reserved, allow: Allowed) -> bool
+    ensures { λ b. ⌜ b ≡ listsTouch (reserved l) (allowed allow) ⌝ }
+{
+    let n = rangelists::used(l.count, 4);
+    let mut i: usize = 0;
+    while i < n {
+        let r = Range {
+            start: l.starts[i],
+            last: l.lasts[i],
+        };
+        if rangelists::is_found(rangelists::allowed_touched(allow, r)) {
+            return true;
+        }
+        i += 1;
+    }
+    false
 }

@@ -8,7 +8,7 @@ use lib.Dec.{leb, eqb}
 use lib.ListN.{getD}
 use lib.ListN as ListN
 use borrow.Author.Tests.{le-leb, lt-leb, eq-eqb}
-use Rattle.lists.specs.Tests.{by-test, and-not-left, and-not-right}
+use Rattle.lists.specs.Tests.{by-test, and-not-right}
 use Rattle.lists.specs.Search.{all, all-and, all-cong}
 use Rattle.lists.specs.Pairs.{clashes}
 use Rattle.table.specs.declared.Object.{Object}

@@ -1,6 +1,6 @@
 -- A scan for a byte that is not zero, at place i. `v` is the loop's invariant: what is left answers for the whole.
 use Prim.Native.Nat.{ℕ, _+_, _≤_, _<_}
-use mathlib.Core.Path.{_≡_, refl}
+use mathlib.Core.Path.{_≡_}
 use mathlib.Core.Bool.{Bool, true, false}
 use mathlib.Core.List.{List}
 use lib.Dec.{eqb}

@@ -1,8 +1,8 @@
 -- "All numbers are little-endian" (document 01): a field of k bytes at an offset, read and written, for every width at once.
 use Prim.Native.Nat.{ℕ, zero, suc, _+_, _-_, _*_, _/_, _%_, _^_, _≤_, _<_}
-use mathlib.Core.Path.{_≡_, refl, sym, ap, _∙_}
-use mathlib.Core.Bool.{Bool, true, false}
-use mathlib.Core.List.{List, [], _∷_}
+use mathlib.Core.Path.{_≡_, refl, ap, _∙_}
+use mathlib.Core.Bool.{Bool}
+use mathlib.Core.List.{List}
 use native.Mathlib.Nat.{pow-suc, pow-zero, one-le-pow}
 use native.Mathlib.Omega.{arith}
 use lib.Arith.{mod-mul}

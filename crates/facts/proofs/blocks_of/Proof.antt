@@ -28,8 +28,8 @@ mul-o c = search needs
 array-copy-out-o : tie.Need-array-copy-out-o Inv-loop2 μ-loop2 Inv-loop μ-loop
 array-copy-out-o c = search needs
 
-home-requires : tie.Need-home-requires Inv-loop2 μ-loop2 Inv-loop μ-loop
-home-requires c κs = search needs
+home-of-requires : tie.Need-home-of-requires Inv-loop2 μ-loop2 Inv-loop μ-loop
+home-of-requires c κs = search needs
 
 places-requires : tie.Need-places-requires Inv-loop2 μ-loop2 Inv-loop μ-loop
 places-requires c κs = search needs
@@ -77,7 +77,7 @@ loop2-less : tie.Need-loop2-less Inv-loop2 μ-loop2 Inv-loop μ-loop
 loop2-less c = search needs
 
 loop2-again : tie.Need-loop2-again Inv-loop2 μ-loop2 Inv-loop μ-loop
-loop2-again c = (gathering-on _ _ _ _ _ _ _ (c .before .before .before .loop2 .inv .0) (omega arith) _ (omega arith) (omega arith) (omega arith) (omega arith) (c .before .before .before .before .before .home .ensures), omega arith)
+loop2-again c = (gathering-on _ _ _ _ _ _ _ (c .before .before .before .loop2 .inv .0) (omega arith) _ (omega arith) (omega arith) (omega arith) (omega arith) (c .before .before .before .before .before .home-of .ensures), omega arith)
 
 add-i : tie.Need-add-i Inv-loop2 μ-loop2 Inv-loop μ-loop
 add-i c = search needs
@@ -102,7 +102,7 @@ blocks-of-spec =
     loop-holds
     mul-o
     array-copy-out-o
-    home-requires
+    home-of-requires
     places-requires
     loop2-holds
     mul-spaces

@@ -4,8 +4,8 @@ use borrow.Author.Needs.{needs}
 use Rattle.objects.proofs.reserved_rest.Statement.{statement}
 use Rattle.objects.proofs.reserved_rest.Tie as tie
 
-in-use-requires : tie.Need-in-use-requires
-in-use-requires c κs = search needs
+used-requires : tie.Need-used-requires
+used-requires c κs = search needs
 
 zero-from-requires : tie.Need-zero-from-requires
 zero-from-requires c κs = search needs
@@ -18,9 +18,9 @@ both-requires c κs = search needs
 
 returns : tie.Need-returns
 unfolding reservedRest
-returns c = rw (c .both .ensures, c .before .zero-from2 .ensures, c .before .before .before .before .before .zero-from .ensures, c .before .before .before .before .before .before .before .before .before .in-use .ensures)
+returns c = rw (c .both .ensures, c .before .zero-from2 .ensures, c .before .before .before .before .before .zero-from .ensures, c .before .before .before .before .before .before .before .before .before .used .ensures)
 
 pub reserved-rest-spec : {M : Type 1} → statement M
 reserved-rest-spec =
     tie.close
-    (tie.spec in-use-requires zero-from-requires zero-from-requires-2 both-requires returns)
+    (tie.spec used-requires zero-from-requires zero-from-requires-2 both-requires returns)

@@ -2,13 +2,13 @@
 use native.Mathlib.Omega.{arith}
 use borrow.Author.Needs.{needs}
 use Prim.Native.Nat.{_-_, min}
-use mathlib.Core.Path.{_≡_, sym, ap, _∙_}
+use mathlib.Core.Path.{_≡_, sym, _∙_}
 use lib.ListN.{length}
-use Rattle.rangelists.specs.Listed.{reserved, allowed, isFound}
+use Rattle.rangelists.specs.Listed.{reserved, allowed}
 use Rattle.table.specs.Good.{listsTouch}
-use Rattle.objects.proofs.Scanning.{touchLeft, touch-start, touch-found, touch-on, touch-end}
-use Rattle.objects.proofs.lists_touch.Statement.{statement}
-use Rattle.objects.proofs.lists_touch.Tie as tie
+use Rattle.table.proofs.Touching.{touchLeft, touch-start, touch-found, touch-on, touch-end}
+use Rattle.table.proofs.lists_touch.Statement.{statement}
+use Rattle.table.proofs.lists_touch.Tie as tie
 
 abbrev Inv-loop : tie.InvT-loop
 Inv-loop allow l n i₀ i = (n ≡ min (l .count) 4) × (length (l .starts) ≡ 4) × (length (l .lasts) ≡ 4) × (touchLeft i l (allowed allow) ≡ listsTouch (reserved l) (allowed allow))
@@ -16,8 +16,8 @@ Inv-loop allow l n i₀ i = (n ≡ min (l .count) 4) × (length (l .starts) ≡ 
 abbrev μ-loop : tie.MeasureT-loop
 μ-loop allow l n i₀ i = n - i
 
-in-use-requires : tie.Need-in-use-requires Inv-loop μ-loop
-in-use-requires c κs = search needs
+used-requires : tie.Need-used-requires Inv-loop μ-loop
+used-requires c κs = search needs
 
 loop-holds : tie.Need-loop-holds Inv-loop μ-loop
 loop-holds c = (search needs, search needs, search needs, touch-start _ _)
@@ -41,7 +41,7 @@ is-found-requires : tie.Need-is-found-requires Inv-loop μ-loop
 is-found-requires c κs = search needs
 
 returns : tie.Need-returns Inv-loop μ-loop
-returns c = let l = c .before .before .before .before .before .before .loop in touch-found _ _ (l .i) (l .inv .1) (l .inv .2) (l .inv .3) (omega arith) (ap isFound (sym (c .before .before .allowed-touched .ensures)) ∙ sym (c .before .is-found .ensures) ∙ c .if1 .taken)
+returns c = let l = c .before .before .before .before .before .before .loop in touch-found _ _ _ (l .i) (l .inv .0) (l .inv .1) (l .inv .2) (l .inv .3) _ (omega arith) (c .before .before .allowed-touched .ensures) (sym (c .before .is-found .ensures) ∙ c .if1 .taken)
 
 add-i : tie.Need-add-i Inv-loop μ-loop
 add-i c = search needs
@@ -50,10 +50,10 @@ loop-less : tie.Need-loop-less Inv-loop μ-loop
 loop-less c = search needs
 
 loop-again : tie.Need-loop-again Inv-loop μ-loop
-loop-again c = let l = c .before .before .before .before .before .before .loop in (search needs, search needs, search needs, touch-on _ _ (l .i) (l .inv .1) (l .inv .2) (l .inv .3) (omega arith) (ap isFound (sym (c .before .before .allowed-touched .ensures)) ∙ sym (c .before .is-found .ensures) ∙ c .if1 .left))
+loop-again c = let l = c .before .before .before .before .before .before .loop in (search needs, search needs, search needs, touch-on _ _ _ (l .i) (l .inv .0) (l .inv .1) (l .inv .2) (l .inv .3) _ (omega arith) (c .before .before .allowed-touched .ensures) (sym (c .before .is-found .ensures) ∙ c .if1 .left))
 
 returns-2 : tie.Need-returns-2 Inv-loop μ-loop
-returns-2 c = let l = c .before .loop in touch-end _ _ (l .i) (l .inv .1) (l .inv .2) (l .inv .3) (omega arith)
+returns-2 c = let l = c .before .loop in touch-end _ _ _ (l .i) (l .inv .0) (l .inv .1) (l .inv .2) (l .inv .3) (omega arith)
 
 pub lists-touch-spec : {M : Type 1} → statement M
 lists-touch-spec =
@@ -61,7 +61,7 @@ lists-touch-spec =
     (tie.spec
     Inv-loop
     μ-loop
-    in-use-requires
+    used-requires
     loop-holds
     mul-t9
     element-copy-out-t12

@@ -1,8 +1,8 @@
 -- By the kind and the attachment.
-use Rattle.lookups.proofs.Looking.{attached-at}
+use Rattle.table.proofs.Leaves.{attached-at}
 use borrow.Author.Needs.{needs}
-use Rattle.lookups.proofs.attached_to.Statement.{statement}
-use Rattle.lookups.proofs.attached_to.Tie as tie
+use Rattle.table.proofs.attached_to.Statement.{statement}
+use Rattle.table.proofs.attached_to.Tie as tie
 
 enum-told : tie.Need-enum-told
 enum-told c = search needs

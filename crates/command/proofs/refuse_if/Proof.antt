@@ -1,7 +1,7 @@
 -- The errno where the check fires.
-use Rattle.lookups.proofs.Looking.{refuse-fired, refuse-passed}
-use Rattle.lookups.proofs.refuse_if.Statement.{statement}
-use Rattle.lookups.proofs.refuse_if.Tie as tie
+use Rattle.command.proofs.Checking.{refuse-fired, refuse-passed}
+use Rattle.command.proofs.refuse_if.Statement.{statement}
+use Rattle.command.proofs.refuse_if.Tie as tie
 
 returns : tie.Need-returns
 returns c = refuse-fired _ _ _ (c .if1 .taken)

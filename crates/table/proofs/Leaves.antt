@@ -1,0 +1,24 @@
+-- What the leaves over kinds and rights return, in the words of the definitions.
+use Prim.Native.Nat.{ℕ, _/_, _%_}
+use mathlib.Core.Path.{_≡_, sym, ap, _∙_}
+use native.Mathlib.Nat.{div-one}
+use lib.Bits.{bitAnd, and-mask}
+use lib.Dec.{eqb}
+use Rattle.command.specs.Flags.{bit}
+use Rattle.table.specs.declared.Attachment.{Attachment}
+use Rattle.table.specs.declared.Attachment.the-variants.{Attached}
+use Rattle.table.specs.declared.Kind.{Kind}
+use Rattle.table.specs.declared.Kind.the-variants.{Device}
+use Rattle.table.specs.declared.Mapping.{Mapping}
+use Rattle.table.specs.Records.{attachedTo, canWrite, canRead}
+
+pub attached-at : (s h : ℕ) (a : Attachment) (k : Kind) → k ≡ Device a → a ≡ Attached h → eqb h s ≡ attachedTo s k
+attached-at s h a k e f = sym (ap (attachedTo s) (e ∙ ap Device f))
+
+pub write-bit : (m : Mapping) → eqb (bitAnd (m .rights) 1) 1 ≡ canWrite m
+unfolding canWrite bit
+write-bit m = ap (λ (x : ℕ). eqb x 1) (and-mask (m .rights) 1 ∙ ap (λ (x : ℕ). x % 2) (sym (div-one (m .rights))))
+
+pub read-bit : (m : Mapping) → eqb (bitAnd (m .rights / 2) 1) 1 ≡ canRead m
+unfolding canRead bit
+read-bit m = ap (λ (x : ℕ). eqb x 1) (and-mask (m .rights / 2) 1)
