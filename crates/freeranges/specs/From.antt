@@ -11,7 +11,25 @@ use Rattle.lists.specs.Tests.{by-test, contrary, and-not-left, and-not-right}
 use Rattle.lists.specs.Each.{Each}
 use Rattle.ranges.specs.declared.Range.{Range}
 use Rattle.ranges.specs.Ranges.{range, holds, holds-from, holds-upto, holds-of}
-use Rattle.freeranges.specs.Free.{U64END, held, freeFrom, Spaced, run, run-of, run-out, run-same, held-nil, held-cons, held-freeFrom, spaced-lower, spaced-freeFrom, none-below, past-first, freeFrom-fits, same-ranges}
+use Rattle.freeranges.specs.Free.{
+  U64END,
+  held,
+  freeFrom,
+  Spaced,
+  run,
+  run-of,
+  run-out,
+  run-same,
+  held-nil,
+  held-cons,
+  held-freeFrom,
+  spaced-lower,
+  spaced-freeFrom,
+  none-below,
+  past-first,
+  freeFrom-fits,
+  same-ranges,
+}
 
 -- one place of the search for another, where all from the one to the other is reserved
 pub skipped : (rs : List Range) (x y : ℕ) → x ≤ y → ((a : ℕ) → x ≤ a → a < y → a < U64END → held rs a ≡ true) → freeFrom x rs ≡ freeFrom y rs

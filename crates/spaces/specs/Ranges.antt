@@ -1,14 +1,18 @@
 -- IOVA_RANGES: reserved field 95; no space 2; range area shorter than 16 times count 14. The list is what is not reserved, as the fewest ranges,
 -- ascending. Count becomes the full number and alignment is written; as many ranges as count allowed are written; 90 if some had no room.
-use Prim.Native.Nat.{ℕ, _*_}
-use mathlib.Core.Bool.{Bool, true, not, cond}
+use Prim.Native.Nat.{ℕ, _*_, _≤_}
+use mathlib.Core.Path.{_≡_, _∙_}
+use mathlib.Core.Bool.{Bool, true, not, _&&_, cond}
 use mathlib.Core.List.{List, [], _∷_}
 use lib.Dec.{ltb, eqb}
 use lib.ListN.{length, take}
 use Rattle.lists.specs.Checks.{Check, when, first}
+use Rattle.lists.specs.Search.{any}
 use Rattle.ranges.specs.declared.Range.{Range}
+use Rattle.ranges.specs.Ranges.{holds}
 use Rattle.wire.specs.Fields.{field, put}
-use Rattle.freeranges.specs.Free.{freeRanges}
+use Rattle.freeranges.specs.Free.{U64END, Spaced, freeRanges, free-has, free-spaced}
+use Rattle.freeranges.specs.Fewest.{free-fewest}
 use Rattle.freeranges.specs.Written.{putRanges}
 use Rattle.table.specs.declared.Object.{Object}
 use Rattle.table.specs.Records.{spaceAt}
@@ -17,6 +21,22 @@ use Rattle.table.specs.Spaces.{alignment, reservedOf}
 -- what a space may use: all that no attached device reserves
 unfoldable pub freeOf : List Object → ℕ → List Range
 freeOf os s = freeRanges (reservedOf os s)
+
+module _ (os : List Object) (s : ℕ) where
+  -- an address lies in one of the ranges exactly if no attached device reserves it
+  pub freeOf-has : (a : ℕ) → any (λ g. holds g a) (freeOf os s) ≡ (ltb a U64END && not (any (λ r. holds r a) (reservedOf os s)))
+  unfolding freeOf
+  freeOf-has = free-has (reservedOf os s)
+
+  -- ascending, none empty, no two adjacent
+  pub freeOf-spaced : Spaced 0 (freeOf os s)
+  unfolding freeOf
+  freeOf-spaced = free-spaced (reservedOf os s)
+
+  -- no list of ranges that holds exactly these addresses is shorter
+  pub freeOf-fewest : (gs : List Range) → ((a : ℕ) → any (λ g. holds g a) gs ≡ any (λ g. holds g a) (freeOf os s)) → length (freeOf os s) ≤ length gs
+  unfolding freeOf
+  freeOf-fewest gs h = free-fewest (reservedOf os s) gs (λ a. h a ∙ free-has (reservedOf os s) a)
 
 unfoldable pub rangesChecks : List Object → ℕ → ℕ → ℕ → ℕ → List (Check ℕ)
 rangesChecks os space count mustBeZero room =

@@ -1,0 +1,4 @@
+-- Document 01's bench set through whole calls, each on the table that the calls before it gave.
+pub mod Plan
+pub mod Ranges
+pub mod Refused
