@@ -1,11 +1,11 @@
 -- A fresh table is good, for every limit from 0 to 2^36.
-use Prim.Native.Nat.{ℕ, _≤_, _^_}
+use Prim.Native.Nat.{ℕ, _≤_, _<_, _^_}
 use mathlib.Core.Path.{_≡_, refl, ap}
 use mathlib.Core.Bool.{true, false}
 use mathlib.Core.List.{List}
 use native.Mathlib.Omega.{arith}
 use lib.ListN.{replicate, length-replicate}
-use Rattle.lists.specs.Tests.{contrary, onlyIf}
+use Rattle.lists.specs.Tests.{by-test, contrary, onlyIf}
 use Rattle.lists.specs.Search.{all, find}
 use Rattle.lists.specs.Each.{Each-replicate}
 use Rattle.lists.specs.Sums.{countOf, sumOf, sumOf-replicate}
@@ -17,7 +17,7 @@ use Rattle.table.specs.Records.{freeObject, zeroMapping, used, freshTabl
 use Rattle.table.specs.Charge.{backs, backingPages, chargeIn, charge}
 use Rattle.table.specs.Good.{deviceNames, deviceValid, listValid, listClear, objectZero, noDevice, noList, reservedRest, allowRest, good}
 use Rattle.table.specs.Checked.{objectOk, objectsOk, recordOk}
-use Rattle.table.specs.Sound.{Shares, covers, sound-good}
+use Rattle.table.specs.Sound.{Shares, covers, good-sound, sound-good}
 use Rattle.table.specs.Facts.{zero-record}
 
 fresh-objects : objectsOk (replicate 32 freeObject) ≡ true
@@ -45,3 +45,8 @@ fresh-good limit h = sound-good (freshTable limit) (record {
   most = h;
   charged = omega (arith, fresh-charge);
 })
+
+-- so the table beside fresh's refusal is of no use: every call on it answers 117
+pub fresh-bad : (limit : ℕ) → 2 ^ 36 < limit → good (freshTable limit) ≡ false
+unfolding freshTable
+fresh-bad limit h = by-test (good (freshTable limit)) (λ g. absurd (omega (arith, good-sound (freshTable limit) g .most))) (λ e. e)
