@@ -1,0 +1,78 @@
+// The parts of a line.
+use libc::STDOUT_FILENO;
+use table::Table;
+
+pub fn text(s: &[u8]) {
+    io::write_all(STDOUT_FILENO, s);
+}
+
+pub fn number(n: u64) {
+    text(b" ");
+    io::print_decimal(STDOUT_FILENO, n);
+}
+
+fn truth(b: bool) {
+    if b {
+        number(1);
+    } else {
+        number(0);
+    }
+}
+
+// A signed result, by its sign and its size.
+pub fn result(r: i32) {
+    text(b" ");
+    if r < 0 {
+        text(b"-");
+    }
+    io::print_decimal(STDOUT_FILENO, size_of(r));
+}
+
+// A result is the negative of an errno or an id, and both are u8; 255 stands for any other.
+fn size_of(r: i32) -> u64 {
+    let mut n: u8 = 0;
+    while n < 255 {
+        if is_size(n, r) {
+            return wide(n);
+        }
+        n += 1;
+    }
+    255
+}
+
+fn is_size(n: u8, r: i32) -> bool {
+    if command::signed_result(n) == r {
+        return true;
+    }
+    command::id_result(n) == r
+}
+
+fn wide(x: u8) -> u64 {
+    x as u64
+}
+
+// Bytes in brackets, so that none is seen too.
+pub fn bytes(s: &[u8]) {
+    text(b" [");
+    hex(s);
+    text(b"]");
+}
+
+fn hex(s: &[u8]) {
+    let mut i: usize = 0;
+    while i < s.len() {
+        let x = s[i];
+        io::print_hex(STDOUT_FILENO, wide(x), 2);
+        i += 1;
+    }
+}
+
+// Whether the table is good, and the sums over all its numbers.
+pub fn ending(t: Table) {
+    truth(tablecheck::is_good(t));
+    let s = crate::sums::of_table(t);
+    text(b" ");
+    io::print_hex(STDOUT_FILENO, s.plain, 8);
+    io::print_hex(STDOUT_FILENO, s.ordered, 8);
+    text(b"\n");
+}
