@@ -1,0 +1,3 @@
+-- Document 01: "A refusal writes nothing", IOVA_RANGES' 90 aside. For any table and any bytes, good or not.
+pub mod Edits
+pub mod Calls

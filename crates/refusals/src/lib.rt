@@ -1,0 +1,1 @@
+// A refusal writes nothing: a theorem for each call. No code: see specs/.
