@@ -321,17 +321,9 @@ def model_allow(t, cmd, area):
 
 
 def not_reserved(taken):
-    """Cut all addresses at every end of a range; keep the pieces that are in none, and join neighbours."""
+    """Cut all addresses at every end of a range and keep the pieces that are in none. No two adjoin: a reserved range ends or begins at each cut."""
     ends = sorted({0, TOP + 1} | {x for r in taken for x in (r.start, r.stop)})
-    joined = []
-    for a, b in zip(ends, ends[1:]):
-        if any(a in r for r in taken):
-            continue
-        if joined and joined[-1].stop == a:
-            joined[-1] = range(joined[-1].start, b)
-        else:
-            joined.append(range(a, b))
-    return joined
+    return [range(a, b) for a, b in zip(ends, ends[1:]) if not any(a in r for r in taken)]
 
 
 def model_ranges(t, cmd, area):
@@ -514,7 +506,7 @@ def bad(*clauses):
 
 
 def call_in_turn(k, want):
-    """Eight calls, most of which another check would refuse too."""
+    """One of the eight calls."""
     [lambda: bind(4096, want=want), lambda: attach(2, 1, want=want), lambda: detach(2, want=want), lambda: reach(2, 0, 1, want=want),
      lambda: alloc(want=want), lambda: destroy(1, want=want), lambda: allow(1, [], want=want), lambda: ranges(1, 1, want=want)][k % 8]()
 
@@ -556,14 +548,17 @@ attach(2, 1, want=0)
 ranges(1, 2, want=0, gives=[(0, 0xFEDFFFFF), (0xFEF00000, TOP)], a=4096)
 ranges(1, 1, want=-90, gives=[(0, 0xFEDFFFFF)], a=4096)
 
-# ==== opening a command, O1 to O8, by each of the four
+
+
 def sized(size, n, fill=0):
     return (struct.pack('<I', size) + bytes([fill]) * n)[:n]
 
 
+# ==== opening a command, O1 to O8, by each of the four
 for known, call in ((12, alloc), (8, destroy), (24, allow), (32, ranges)):
     for n in range(4):
         call(cmd=sized(known, n), want=-14)
+    call(cmd=bytes(3), want=-14)
     call(cmd=sized(0, 4), want=-22)                                    # O1: size before bytes
     call(cmd=sized(known - 1, known), want=-22)
     call(cmd=sized(known - 1, known, 1), want=-22)
@@ -843,8 +838,10 @@ attach(4, 1, want=-98)                                                 # H11: to
 allow(1, [(0xFFFF, 0xFFFF), (0x11000, 0x11FFF)], want=0)
 attach(4, 1, want=0)                                                   # neighbours are fine
 ranges(1, 2, want=0, gives=[(0, 0xFFFF), (0x11000, TOP)], a=4096)
-attach(4, 2, want=-16)                                                 # 16 before 98
 attach(5, 1, want=0)                                                   # H6: the higher of old and new
+mapping(9, page(2, 0, 9))
+attach(5, 2, want=-16)                                                 # 16 before 98
+mapping(9)
 ranges(1, 2, want=-90, a=4096)
 destroy(1, want=-16)
 detach(4, want=0)                                                      # H7
@@ -1064,18 +1061,18 @@ mapping(2)
 for i, o in ((4, loose), (3, home)):                                   # B2: loose devices are judged too
     wrong_object(i, o, 'bitmap 0', bitmap=0)
     wrong_object(i, o, 'lowest page above 4096', bitmap=8192)
-    wrong_object(i, o, 'lowest page above 4096', bitmap=2**63)
     wrong_object(i, o, 'over 4 reserved ranges', count=5)
-    wrong_object(i, o, 'over 4 reserved ranges', count=2**32 - 1)
     wrong_object(i, o, 'reserved start above last', count=4, starts=(1, 2, 3, 4), lasts=(1, 2, 3, 3))
-    wrong_object(i, o, 'reserved start above last', count=1, starts=(1, 0, 0, 0), lasts=(0, 0, 0, 0))
     wrong_object(i, o, 'unused reserved place not zero', count=1, starts=(0, 0, 0, 1), lasts=(0, 0, 0, 0))
-    wrong_object(i, o, 'unused reserved place not zero', count=1, starts=(0, 0, 0, 0), lasts=(0, 1, 0, 0))
-    wrong_object(i, o, 'unused reserved place not zero', count=3, starts=(0, 0, 0, 0), lasts=(0, 0, 0, 2**63))
     wrong_object(i, o, 'device with a field of a space', size=1)
-    wrong_object(i, o, 'device with a field of a space', lows=(0,) * 7 + (1,))
-    wrong_object(i, o, 'device with a field of a space', highs=(1,) + (0,) * 7)
     fine_object(i, o, count=4, starts=(9, 9, 0, 9), lasts=(9, 9, 9, 9))
+wrong_object(4, loose, 'lowest page above 4096', bitmap=2**63)
+wrong_object(4, loose, 'over 4 reserved ranges', count=2**32 - 1)
+wrong_object(4, loose, 'reserved start above last', count=1, starts=(1, 0, 0, 0), lasts=(0, 0, 0, 0))
+wrong_object(4, loose, 'unused reserved place not zero', count=1, starts=(0, 0, 0, 0), lasts=(0, 1, 0, 0))
+wrong_object(4, loose, 'unused reserved place not zero', count=3, starts=(0, 0, 0, 0), lasts=(0, 0, 0, 2**63))
+wrong_object(4, loose, 'device with a field of a space', lows=(0,) * 7 + (1,))
+wrong_object(4, loose, 'device with a field of a space', highs=(1,) + (0,) * 7)
 wrong_object(4, loose, 'device of no space', kind=ATTACHED, home=7)
 wrong_object(1, listed(NEW_SPACE, []), 'over 8 allowed ranges', size=9, highs=(0, 1, 2, 3, 4, 5, 6, 7), lows=(0, 1, 2, 3, 4, 5, 6, 7))
 wrong_object(2, listed(NEW_SPACE, []), 'over 8 allowed ranges', size=2**32 - 1, highs=(0, 1, 2, 3, 4, 5, 6, 7), lows=(0, 1, 2, 3, 4, 5, 6, 7))
@@ -1097,14 +1094,14 @@ wrong_object(1, NEW_SPACE, 'space with a field of a device', bitmap=4096)
 wrong_object(1, NEW_SPACE, 'space with a field of a device', count=1)
 wrong_object(2, NEW_SPACE, 'space with a field of a device', starts=(0, 0, 0, 1))
 wrong_object(2, NEW_SPACE, 'space with a field of a device', lasts=(1, 0, 0, 0))
-for i in (5, 32):
-    wrong_object(i, RELEASED, 'released object not zero', bitmap=1)
-    wrong_object(i, RELEASED, 'released object not zero', count=2)
-    wrong_object(i, RELEASED, 'released object not zero', starts=(0, 1, 0, 0))
-    wrong_object(i, RELEASED, 'released object not zero', lasts=(0, 0, 1, 0))
-    wrong_object(i, RELEASED, 'released object not zero', size=1)
-    wrong_object(i, RELEASED, 'released object not zero', lows=(0, 0, 0, 1, 0, 0, 0, 0))
-    wrong_object(i, RELEASED, 'released object not zero', highs=(0,) * 7 + (2**63,))
+wrong_object(5, RELEASED, 'released object not zero', bitmap=1)
+wrong_object(32, RELEASED, 'released object not zero', bitmap=2**63)
+wrong_object(32, RELEASED, 'released object not zero', count=2)
+wrong_object(32, RELEASED, 'released object not zero', starts=(0, 1, 0, 0))
+wrong_object(32, RELEASED, 'released object not zero', lasts=(0, 0, 1, 0))
+wrong_object(32, RELEASED, 'released object not zero', size=1)
+wrong_object(5, RELEASED, 'released object not zero', lows=(0, 0, 0, 1, 0, 0, 0, 0))
+wrong_object(5, RELEASED, 'released object not zero', highs=(0,) * 7 + (2**63,))
 wrong_object(2, RELEASED, 'mapping of no space')                       # the space of a mapping, of a device
 wrong_object(1, RELEASED, 'device of no space')
 wrong_object(1, device(), 'device of no space')
@@ -1137,6 +1134,34 @@ limit(2**28 + 3)
 good()
 limit(2**28 + 2)
 bad('limit below the charge')
+
+# ==== the last places: object 32, mapping record 127, the fourth reserved range, the eighth allowed one
+four = [(0x2000 * k, 0x2000 * k + 0xFFF) for k in range(4)]
+eight = [(0x8000 + 2 * k, 0x8000 + 2 * k) for k in range(7)] + [(0x6FFF, 0x7000)]
+fresh()
+stored(32, NEW_SPACE)
+bind(4096, four, want=1)
+mapping(127, page(32, 0x6000, 128))
+attach(1, 32, want=-98)
+mapping(127, page(32, 0x7000, 128, length=0x800))
+attach(1, 32, want=-98)
+mapping(127, page(32, 0x7000, 128))
+allow(32, eight, want=0)
+attach(1, 32, want=-98)
+allow(32, [], want=0)
+attach(1, 32, want=0)
+allow(32, eight, want=-98)
+ranges(32, 4, want=0, gives=[(0x2000 * k + 0x1000, 0x2000 * k + 0x1FFF) for k in range(3)] + [(0x7000, TOP)], a=4096)
+reach(1, 0x7000, 4096, want=0, at=0)
+reach(1, 0x7000, 4096, write=True, want=-1)
+wrong(127, page(32, 0x6000, 128), 'touches reserved')
+wrong(127, page(32, 0x7800, 128, length=0x800), 'misaligned')
+wrong_object(32, listed(NEW_SPACE, eight), 'allowed touches reserved')
+destroy(32, want=-16)
+detach(1, want=0)
+destroy(32, want=0)
+limit(0)
+good()
 
 # ==== all 128 mapping records
 fresh(128)
