@@ -1,7 +1,7 @@
 -- Flags (document 01: "bit 0 fixed address, bit 1 writeable, bit 2 readable"), by / and %, so that they compute.
 use Prim.Native.Nat.{ℕ, _+_, _*_, _/_, _%_, _^_}
 use mathlib.Core.Path.{_≡_}
-use mathlib.Core.Bool.{Bool, true, false, not}
+use mathlib.Core.Bool.{Bool, false, not}
 use native.Mathlib.Nat.{mod-lt, mod-eq-of-lt, div-one, div-add-mod', div-div-eq-div-mul}
 use native.Mathlib.Omega.{arith}
 use lib.Dec.{eqb}

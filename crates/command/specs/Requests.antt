@@ -1,6 +1,5 @@
 -- The table of requests (document 01, "Commands and their bytes"): number and size of each command.
 use Prim.Native.Nat.{ℕ}
-use mathlib.Core.Path.{ap}
 use mathlib.Core.List.{List, [], _∷_}
 use mathlib.Core.Option.{Option, none, some}
 use lib.Dec.{eqb}

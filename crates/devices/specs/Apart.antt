@@ -3,17 +3,13 @@ use Prim.Native.Nat.{ℕ, suc, _-_}
 use mathlib.Core.Path.{_≡_, refl, sym, ap, _∙_}
 use mathlib.Core.Bool.{true, false}
 use native.Mathlib.Omega.{arith}
-use lib.Dec.{eqb}
 use borrow.Author.Tests.{ne-eqb}
 use Rattle.lists.specs.Tests.{contrary}
 use Rattle.lists.specs.Checks.{first}
 use Rattle.rangelists.specs.declared.Reserved.{Reserved}
-use Rattle.table.specs.declared.Attachment.the-variants.{Loose, Attached}
-use Rattle.table.specs.declared.Kind.{Kind}
-use Rattle.table.specs.declared.Kind.the-variants.{Free, Space, Device}
 use Rattle.table.specs.declared.Object.{Object}
 use Rattle.table.specs.declared.Table.{Table}
-use Rattle.table.specs.Records.{freeObject, isDevice, isAttached, homeOf, objectAt, spaceAt, attachedTo}
+use Rattle.table.specs.Records.{freeObject, isDevice, homeOf, objectAt, spaceAt, attachedTo, other-home, loose-home}
 use Rattle.table.specs.Charge.{freeRecord}
 use Rattle.table.specs.Sound.{Sound}
 use Rattle.table.specs.Replaced.{objectAt-place}
@@ -23,19 +19,6 @@ use Rattle.edits.specs.Untouched.{Untouched, settle-untouched, put-untouched, p
 use Rattle.devices.specs.Bind.{newDevice, bindChecks, bindEdit}
 use Rattle.devices.specs.Attach.{attachedObject, looseObject, attachChecks, attachEdit, detachChecks, detachEdit}
 use Rattle.devices.specs.Kept.{device-place, is-device, not-attached, detach-passed}
-
--- a device at home elsewhere is not attached here
-pub other-home : (k : Kind) (s : ℕ) → (homeOf k ≡ s → ⊥) → attachedTo s k ≡ false
-other-home Free s h = refl
-other-home Space s h = refl
-other-home (Device Loose) s h = refl
-other-home (Device (Attached a)) s h = ne-eqb a s h
-
-loose-home : (k : Kind) (s : ℕ) → isAttached k ≡ false → attachedTo s k ≡ false
-loose-home Free s e = refl
-loose-home Space s e = refl
-loose-home (Device Loose) s e = refl
-loose-home (Device (Attached a)) s e = contrary true refl e
 
 -- the record of a device changes, which neither before nor after is attached to s
 module _ (s : ℕ) (t : Table) (d : ℕ) (n : Object) (space : spaceAt (t .objects) s ≡ true) where

@@ -11,8 +11,8 @@ use lib.ListN as ListN
 use borrow.Author.Tests.{eqb-true, eq-eqb, leb-true, leb-false, le-leb, ltb-false, not-false}
 use Rattle.lists.specs.Tests.{by-test, contrary, and-left, and-right, and-both, or-not-left, or-not-right}
 use Rattle.lists.specs.Search.{any, any-nil, all}
-use Rattle.lists.specs.Each.{Each, Each-zip, Each-of, Each-any-false}
-use Rattle.lists.specs.Checks.{Check, when, first, passed}
+use Rattle.lists.specs.Each.{Each-zip, Each-of, Each-any-false}
+use Rattle.lists.specs.Checks.{when, first, passed}
 use Rattle.ranges.specs.declared.Range.{Range}
 use Rattle.ranges.specs.Ranges.{share}
 use Rattle.alignment.specs.Pages.{smallestPage, Power, page-power}
@@ -21,7 +21,7 @@ use Rattle.alignment.specs.Highest.{multiple-lower, max-power}
 use Rattle.rangelists.specs.declared.Reserved.{Reserved}
 use Rattle.rangelists.specs.Listed.{places, listed, reserved, allowed, valid}
 use Rattle.wire.specs.Fields.{zeros}
-use Rattle.table.specs.declared.Attachment.the-variants.{Loose, Attached}
+use Rattle.table.specs.declared.Attachment.the-variants.{Loose}
 use Rattle.table.specs.declared.Kind.{Kind}
 use Rattle.table.specs.declared.Kind.the-variants.{Free, Space, Device}
 use Rattle.table.specs.declared.Object.{Object}
@@ -30,15 +30,14 @@ use Rattle.table.specs.declared.Table.{Table}
 use Rattle.table.specs.Records.{freeObject, isSpace, isDevice, isAttached, objectAt, spaceAt, used, ofSpace, extent}
 use Rattle.table.specs.Spaces.{pageFor, alignment, alignment-power, reservedFor}
 use Rattle.table.specs.Charge.{freeRecord}
-use Rattle.table.specs.Good.{kindNames, deviceBy, listBy, listClearBy, zeroBy, deviceNames, deviceValid, listValid, listClear, objectZero, noList, reservedRest, allowRest, good, listsTouch}
+use Rattle.table.specs.Good.{kindNames, deviceBy, listBy, listClearBy, zeroBy, deviceNames, deviceValid, listValid, listClear, objectZero, noList, reservedRest, allowRest, listsTouch}
 use Rattle.table.specs.Checked.{objectOk}
 use Rattle.table.specs.Sound.{Sound}
 use Rattle.table.specs.Facts.{UsedOk}
 use Rattle.table.specs.Replaced.{object-at-ok, objectAt-set-other, spaceAt-set-other, none-attached, hosts-none}
 use Rattle.table.specs.Moved.{Quiet}
-use Rattle.edits.specs.declared.Edit.{Edit}
 use Rattle.edits.specs.declared.Change.the-variants.{Put}
-use Rattle.edits.specs.Edits.{accept, settle, placed, applied}
+use Rattle.edits.specs.Edits.{accept, placed, applied}
 use Rattle.edits.specs.Kept.{Bears, AllBorne, put-sound, quiet-bears, elsewhere, settle-sound, placed-sound}
 use Rattle.devices.specs.Bind.{onlyFirst, trimmed, newDevice, bindChecks, bindEdit}
 use Rattle.devices.specs.Attach.{blockedBy, misfits, alignmentWith, attachedObject, looseObject, attachChecks, attachEdit, detachChecks, detachEdit}

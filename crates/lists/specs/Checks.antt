@@ -80,6 +80,24 @@ module _ {A : Type 0} where
       (λ t. contrary (c .fires) t (or-not-left (c .fires) (any (λ c. c .fires) cs) e))
       (λ t. first-passes c cs ok t ∙ first-ok cs ok (or-not-right (c .fires) (any (λ c. c .fires) cs) e))
 
+  -- a list of checks that refused refuses whatever comes after it
+  pub first-stays : (cs : List (Check A)) (ok n r : A) → n ≡ first cs ok → (n ≡ ok → ⊥) → n ≡ first cs r
+  unfolding first
+  first-stays [] ok n r e h = absurd (h e)
+  first-stays (c ∷ cs) ok n r e h =
+      by-test (c .fires)
+      (λ t. e ∙ first-fires c cs ok t ∙ sym (first-fires c cs r t))
+      (λ t. first-stays cs ok n r (e ∙ first-passes c cs ok t) h ∙ sym (first-passes c cs r t))
+
+  -- and one that passed leaves the answer to what comes after it
+  pub first-goes : (cs : List (Check A)) (ok r : A) → Refusals cs ok → ok ≡ first cs ok → r ≡ first cs r
+  unfolding first
+  first-goes [] ok r h e = refl
+  first-goes (c ∷ cs) ok r h e =
+      by-test (c .fires)
+      (λ t. absurd (h .0 (sym (e ∙ first-fires c cs ok t))))
+      (λ t. first-goes cs ok r (h .1) (e ∙ first-passes c cs ok t) ∙ sym (first-passes c cs r t))
+
   -- the outcome is the answer of the check at the first place that fires
   pub first-seek : (cs : List (Check A)) (ok : A) (d : Check A) (i n : ℕ) → seek (λ (c : Check A). c .fires) i cs ≡ some (i + n) → first cs ok ≡ getD cs n d .answer
   unfolding first seek

@@ -3,7 +3,7 @@ use Prim.Native.Nat.{ℕ, suc, _+_, _-_, _≤_, _<_, max}
 use mathlib.Core.Path.{_≡_, refl, sym, ap, _∙_}
 use mathlib.Core.Bool.{true, false}
 use mathlib.Core.List.{List}
-use mathlib.Core.Option.{Option, none, some}
+use mathlib.Core.Option.{Option}
 use native.Mathlib.Omega.{arith}
 use lib.ListN.{length, getD, drop}
 use Rattle.lists.specs.Search.{seek, seek-found, seek-on, seek-end, seek-some-lt}
@@ -11,8 +11,7 @@ use Rattle.alignment.specs.Pages.{smallestPage}
 use Rattle.alignment.specs.Highest.{highest, highest-start, highest-on, highest-end}
 use Rattle.rangelists.specs.declared.Found.{Found}
 use Rattle.rangelists.specs.declared.Found.the-variants.{Nothing, At}
-use Rattle.rangelists.specs.Listed.{found}
-use Rattle.command.specs.Flags.{bit}
+use Rattle.rangelists.specs.Listed.{found, from-found, from-nothing}
 use Rattle.table.specs.declared.Object.{Object}
 use Rattle.table.specs.Records.{zeroObject, freeObject, isFree, attachedTo, objectAt}
 use Rattle.table.specs.Spaces.{pageFor, alignment}
@@ -58,14 +57,6 @@ module _ (os : List Object) (i : ℕ) {k : Found} (v : freeLeft i os ≡ k) wher
   free-end h = ap found (seek-end (λ (o : Object). isFree (o .kind)) os i refl h) ∙ v
 
 -- the place found is one of the records
-from-found : (o : Option ℕ) (i : ℕ) → found o ≡ At i → o ≡ some i
-from-found none i e = let z : _≡_ {A = ℕ} 0 1 = cc in absurd (omega arith)
-from-found (some n) i e = cc
-
-from-nothing : (o : Option ℕ) → found o ≡ Nothing → o ≡ none
-from-nothing none e = refl
-from-nothing (some n) e = let z : _≡_ {A = ℕ} 0 1 = cc in absurd (omega arith)
-
 module _ (os : List Object) (f : Found) (e : f ≡ found (freeRecord os)) where
   pub free-below : (i : ℕ) → f ≡ At i → length os ≡ 32 → i < 32
   unfolding freeRecord

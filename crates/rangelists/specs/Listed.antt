@@ -68,16 +68,20 @@ abbrev pub found : Option ℕ → Found
 found none = Nothing
 found (some i) = At i
 
+pub from-found : (o : Option ℕ) (i : ℕ) → found o ≡ At i → o ≡ some i
+from-found none i e = let z : _≡_ {A = ℕ} 0 1 = cc in absurd (omega arith)
+from-found (some n) i e = cc
+
+pub from-nothing : (o : Option ℕ) → found o ≡ Nothing → o ≡ none
+from-nothing none e = refl
+from-nothing (some n) e = let z : _≡_ {A = ℕ} 0 1 = cc in absurd (omega arith)
+
 -- from a place on
 unfoldable pub touchedFrom : Range → ℕ → List Range → Found
 touchedFrom r i rs = found (seek (share r) i (drop i rs))
 
 unfoldable pub firstTouched : Range → List Range → Found
 firstTouched r rs = touchedFrom r 0 rs
-
-from-found : (o : Option ℕ) (i : ℕ) → found o ≡ At i → o ≡ some i
-from-found none i e = let z : _≡_ {A = ℕ} 0 1 = cc in absurd (omega arith)
-from-found (some n) i e = cc
 
 abbrev pub isFound : Found → Bool
 isFound Nothing = false

@@ -7,8 +7,7 @@ use native.Mathlib.Omega.{arith}
 use lib.ListN.{length}
 use borrow.Author.Tests.{lt-ltb, le-ltb, ltb-false}
 use Rattle.lists.specs.Search.{any, any-nil}
-use Rattle.lists.specs.Tests.{by-test}
-use Rattle.lists.specs.Checks.{Check, when, first, first-fires, first-passes, first-append, Refusals, passed}
+use Rattle.lists.specs.Checks.{when, first, first-append, first-stays, first-goes, Refusals, passed}
 use Rattle.ranges.specs.declared.Range.{Range}
 use Rattle.ranges.specs.Ranges.{share}
 use Rattle.rangelists.specs.declared.Allowed.{Allowed}
@@ -48,11 +47,11 @@ eight a b c d e f g h p q r s t u v w ea eb ec ed ee ef eg eh = rw (ea, eb, ec, 
 
 module _ (s : ℕ) (qs : List Range) (o : Object) where
   pub not-there : attachedTo s (o .kind) ≡ false → false ≡ touchesList s qs o
-  unfolding touchesList reservedFor
+  unfolding touchesList reservedFor listsTouch
   not-there e = sym (rw e (any-nil (λ r. any (share r) qs)))
 
   pub there : {b : Bool} → attachedTo s (o .kind) ≡ true → b ≡ listsTouch (reserved (o .reserved)) qs → b ≡ touchesList s qs o
-  unfolding touchesList reservedFor listsTouch
+  unfolding touchesList reservedFor
   there e f = f ∙ sym (rw e)
 
 -- a loop over the objects: what is left from place i on answers for the whole
@@ -82,24 +81,6 @@ module _ (os : List Object) (id : ℕ) (o : Object) (e : o ≡ objectAt os id) w
 
 -- ---- ALLOW_IOVAS: the checks on the numbers, then those on the list
 
--- a list of checks that refused refuses whatever comes after it
-pub first-stays : (cs : List (Check ℕ)) (n r : ℕ) → n ≡ first cs 0 → (n ≡ 0 → ⊥) → n ≡ first cs r
-unfolding first
-first-stays [] n r e h = absurd (h e)
-first-stays (c ∷ cs) n r e h =
-    by-test (c .fires)
-    (λ t. e ∙ first-fires c cs 0 t ∙ sym (first-fires c cs r t))
-    (λ t. first-stays cs n r (e ∙ first-passes c cs 0 t) h ∙ sym (first-passes c cs r t))
-
--- and one that passed leaves the answer to what comes after it
-pub first-goes : (cs : List (Check ℕ)) (r : ℕ) → Refusals cs 0 → 0 ≡ first cs 0 → r ≡ first cs r
-unfolding first
-first-goes [] r h e = refl
-first-goes (c ∷ cs) r h e =
-    by-test (c .fires)
-    (λ t. absurd (h .0 (sym (e ∙ first-fires c cs 0 t))))
-    (λ t. first-goes cs r (h .1) (e ∙ first-passes c cs 0 t) ∙ sym (first-passes c cs r t))
-
 module _ (os : List Object) (s count z : ℕ) (area : List ℕ) where
   numbers-refuse : Refusals (numberChecks os s count z (length area)) 0
   unfolding numberChecks
@@ -108,14 +89,14 @@ module _ (os : List Object) (s count z : ℕ) (area : List ℕ) where
   pub by-numbers : (n : ℕ) → n ≡ first (numberChecks os s count z (length area)) 0 → (n ≡ 0 → ⊥) → n ≡ first (allowChecks os s count z area) 0
   unfolding allowChecks
   by-numbers n e h =
-      first-stays (numberChecks os s count z (length area)) n (first (listChecks os s (areaList count area)) 0) e h
+      first-stays (numberChecks os s count z (length area)) 0 n (first (listChecks os s (areaList count area)) 0) e h
       ∙ sym (first-append (numberChecks os s count z (length area)) (listChecks os s (areaList count area)) 0)
 
   pub by-list : (n : ℕ) (l : Allowed) → 0 ≡ first (numberChecks os s count z (length area)) 0 → l ≡ areaList count area → n ≡ first (listChecks os s l) 0 → n ≡ first (allowChecks os s count z area) 0
   unfolding allowChecks
   by-list n l e k f =
       f ∙ ap (λ (x : Allowed). first (listChecks os s x) 0) k
-      ∙ first-goes (numberChecks os s count z (length area)) (first (listChecks os s (areaList count area)) 0) numbers-refuse e
+      ∙ first-goes (numberChecks os s count z (length area)) 0 (first (listChecks os s (areaList count area)) 0) numbers-refuse e
       ∙ sym (first-append (numberChecks os s count z (length area)) (listChecks os s (areaList count area)) 0)
 
   -- the area holds the list

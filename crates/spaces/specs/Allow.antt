@@ -5,10 +5,8 @@ use mathlib.Core.Bool.{Bool, not, _||_, cond}
 use mathlib.Core.List.{List, [], _∷_, _++_}
 use lib.Dec.{ltb, eqb}
 use lib.ListN.{length}
-use Rattle.lists.specs.Search.{any}
 use Rattle.lists.specs.Checks.{Check, when, first}
 use Rattle.ranges.specs.declared.Range.{Range}
-use Rattle.ranges.specs.Ranges.{share}
 use Rattle.rangelists.specs.declared.Allowed.{Allowed}
 use Rattle.rangelists.specs.Listed.{allowed, valid, overlap}
 use Rattle.wire.specs.Fields.{field}
@@ -35,7 +33,7 @@ areaList count area = record { count = count; starts = column 0 count 0 8 area; 
 
 -- a device attached to the space with a range that touches the list
 unfoldable pub touchesList : ℕ → List Range → Object → Bool
-touchesList s qs o = any (λ r. any (share r) qs) (reservedFor s o)
+touchesList s qs o = listsTouch (reservedFor s o) qs
 
 unfoldable pub withAllow : Object → Allowed → Object
 withAllow o l = record { kind = o .kind; bitmap = o .bitmap; reserved = o .reserved; allow = l }

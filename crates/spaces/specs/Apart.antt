@@ -6,14 +6,12 @@ use mathlib.Core.List.{List}
 use native.Mathlib.Omega.{arith}
 use lib.ListN.{getD}
 use lib.ListN as ListN
-use Rattle.lists.specs.Tests.{contrary}
 use Rattle.lists.specs.Checks.{first}
-use Rattle.table.specs.declared.Attachment.the-variants.{Loose, Attached}
 use Rattle.table.specs.declared.Kind.{Kind}
 use Rattle.table.specs.declared.Kind.the-variants.{Free, Space, Device}
 use Rattle.table.specs.declared.Object.{Object}
 use Rattle.table.specs.declared.Table.{Table}
-use Rattle.table.specs.Records.{freeObject, newSpace, isAttached, objectAt, spaceAt, attachedTo}
+use Rattle.table.specs.Records.{freeObject, newSpace, objectAt, spaceAt, attachedTo, loose-home}
 use Rattle.table.specs.Charge.{freeRecord}
 use Rattle.table.specs.Sound.{Sound}
 use Rattle.table.specs.Replaced.{objectAt-place, spaceAt-place}
@@ -27,13 +25,6 @@ use Rattle.spaces.specs.Kept.{object-place, is-object, is-loose, allow-s
 pub alloc-untouched : (s : ℕ) (t : Table) (flags : ℕ) → Sound t → spaceAt (t .objects) s ≡ true → Untouched s t (applied t (allocEdit (t .objects) flags))
 unfolding allocEdit
 alloc-untouched s t flags g space = settle-untouched s t (first (allocChecks flags) 0) (placed (freeRecord (t .objects)) newSpace) (λ e. placed-untouched s t newSpace g space refl)
-
--- what is not attached at all is not attached to s
-loose-home : (k : Kind) (s : ℕ) → isAttached k ≡ false → attachedTo s k ≡ false
-loose-home Free s e = refl
-loose-home Space s e = refl
-loose-home (Device Loose) s e = refl
-loose-home (Device (Attached a)) s e = contrary true refl e
 
 at-place : (os : List Object) (s id i : ℕ) → id ≡ suc i → i < ListN.length os → attachedTo s (objectAt os id .kind) ≡ false → attachedTo s (getD os i freeObject .kind) ≡ false
 at-place os s id i p h e = ap (λ (o : Object). attachedTo s (o .kind)) (sym (objectAt-place os i freeObject h)) ∙ ap (λ (x : ℕ). attachedTo s (objectAt os x .kind)) (sym p) ∙ e

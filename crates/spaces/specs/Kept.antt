@@ -4,20 +4,19 @@ use mathlib.Core.Path.{_≡_, refl, sym, ap, _∙_}
 use mathlib.Core.Bool.{Bool, true, false, not, _&&_, cond}
 use mathlib.Core.List.{List, [], _∷_}
 use native.Mathlib.Omega.{arith}
-use lib.Dec.{leb, ltb, eqb}
+use lib.Dec.{leb, eqb}
 use lib.ListN.{getD, set, drop, List·getD-eq-default}
 use lib.ListN as ListN
 use borrow.Author.Tests.{eqb-true, eqb-false, leb-true, leb-false, le-leb, ltb-false, le-ltb, not-false}
 use Rattle.lists.specs.Tests.{by-test, contrary, and-left, and-right, and-both, or-not-left, or-not-right}
 use Rattle.lists.specs.Search.{any, all}
-use Rattle.lists.specs.Each.{Each, Each-imp, Each-of, Each-any-false}
+use Rattle.lists.specs.Each.{Each-imp, Each-of, Each-any-false}
 use Rattle.lists.specs.Pairs.{clashes}
-use Rattle.lists.specs.Checks.{Check, when, first, passed}
+use Rattle.lists.specs.Checks.{when, first, passed}
 use Rattle.ranges.specs.declared.Range.{Range}
 use Rattle.ranges.specs.Ranges.{share}
 use Rattle.rangelists.specs.Listed.{listed, reserved, allowed, valid, overlap}
 use Rattle.wire.specs.Fields.{field, zeros}
-use Rattle.table.specs.declared.Attachment.the-variants.{Attached}
 use Rattle.table.specs.declared.Kind.{Kind}
 use Rattle.table.specs.declared.Kind.the-variants.{Free, Space, Device}
 use Rattle.table.specs.declared.Object.{Object}
@@ -33,8 +32,7 @@ use Rattle.table.specs.Facts.{UsedOk}
 use Rattle.table.specs.Replaced.{object-at-ok, spaceAt-place, spaceAt-set-same, spaceAt-set-other, hosts-none, Hosts}
 use Rattle.table.specs.Moved.{Quiet}
 use Rattle.edits.specs.declared.Change.the-variants.{Put}
-use Rattle.edits.specs.declared.Edit.{Edit}
-use Rattle.edits.specs.Edits.{accept, settle, placed, putObject, applied}
+use Rattle.edits.specs.Edits.{accept, placed, putObject, applied}
 use Rattle.edits.specs.Kept.{put-sound, drop-sound, free-ok, quiet-bears, elsewhere, settle-sound, placed-sound}
 use Rattle.spaces.specs.Objects.{allocChecks, allocEdit, inUse, destroyChecks, removal, destroyEdit}
 use Rattle.spaces.specs.Allow.{numberAt, column, areaList, withAllow, numberChecks, listChecks, allowChecks, allowEdit}

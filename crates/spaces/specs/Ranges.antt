@@ -10,7 +10,7 @@ use Rattle.lists.specs.Checks.{Check, when, first}
 use Rattle.lists.specs.Search.{any}
 use Rattle.ranges.specs.declared.Range.{Range}
 use Rattle.ranges.specs.Ranges.{holds}
-use Rattle.wire.specs.Fields.{field, put}
+use Rattle.wire.specs.Fields.{put}
 use Rattle.freeranges.specs.Free.{U64END, Spaced, freeRanges, free-has, free-spaced}
 use Rattle.freeranges.specs.Fewest.{free-fewest}
 use Rattle.freeranges.specs.Written.{putRanges}

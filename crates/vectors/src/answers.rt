@@ -2,6 +2,11 @@
 use alignment::Spot;
 use command::Opening;
 use libc::STDOUT_FILENO;
+use lines::hex;
+use lines::number;
+use lines::text;
+use lines::truth;
+use lines::word;
 use rangelists::Allowed;
 use rangelists::Found;
 use rangelists::Reserved;
@@ -25,34 +30,6 @@ pub fn answer(operation: u32, body: &[u8]) {
         _ => text(b"unknown operation"),
     }
     text(b"\n");
-}
-
-fn text(s: &[u8]) {
-    io::write_all(STDOUT_FILENO, s);
-}
-
-fn number(n: u64) {
-    text(b" ");
-    io::print_decimal(STDOUT_FILENO, n);
-}
-
-fn truth(b: bool) {
-    if b {
-        number(1);
-    } else {
-        number(0);
-    }
-}
-
-// The u64 at place k of the body, 0 where it is cut.
-fn word(body: &[u8], k: usize) -> u64 {
-    if 64 < k {
-        return 0;
-    }
-    if body.len() < 8 * k + 8 {
-        return 0;
-    }
-    wire::read64(body, 8 * k)
 }
 
 // The lowest 32 bits of such a word.
@@ -190,19 +167,6 @@ fn flags(body: &[u8]) {
     truth(command::is_fixed(f));
     truth(command::is_writeable(f));
     truth(command::is_readable(f));
-}
-
-fn hex(s: &[u8]) {
-    let mut i: usize = 0;
-    while i < s.len() {
-        let x = s[i];
-        io::print_hex(STDOUT_FILENO, wide(x), 2);
-        i += 1;
-    }
-}
-
-fn wide(x: u8) -> u64 {
-    x as u64
 }
 
 // A u64 and a u32 written at odd offsets of 16 bytes, the bytes, and both read back.

@@ -1,15 +1,16 @@
 -- "All numbers are little-endian" (document 01): a field of k bytes at an offset, read and written, for every width at once.
 use Prim.Native.Nat.{ℕ, zero, suc, _+_, _-_, _*_, _/_, _%_, _^_, _≤_, _<_}
 use mathlib.Core.Path.{_≡_, refl, ap, _∙_}
-use mathlib.Core.Bool.{Bool}
+use mathlib.Core.Bool.{Bool, true, false}
 use mathlib.Core.List.{List}
 use native.Mathlib.Nat.{pow-suc, pow-zero, one-le-pow}
 use native.Mathlib.Omega.{arith}
 use lib.Arith.{mod-mul}
 use lib.Dec.{eqb}
-use lib.ListN.{length, getD, set, length-set}
+use lib.ListN.{length, getD, drop, set, length-set}
 use lib.Seq.{getD-set-same, getD-set-other}
-use Rattle.lists.specs.Search.{all}
+use borrow.Author.Tests.{eq-eqb, ne-eqb}
+use Rattle.lists.specs.Search.{all, all-failed, all-on, all-end}
 
 -- the number that the k bytes from an offset on give, lowest byte first
 unfoldable pub field : ℕ → List ℕ → ℕ → ℕ
@@ -24,6 +25,20 @@ put (suc k) bs at v = put k (set bs at (v % 256)) (at + 1) (v / 256)
 -- every byte is zero
 unfoldable pub zeros : List ℕ → Bool
 zeros bs = all (λ b. eqb b 0) bs
+
+-- a scan for a byte that is not zero, at place i. `v` is the loop's invariant: what is left answers for the whole
+module _ (bs : List ℕ) (i : ℕ) {k : Bool} (v : zeros (drop i bs) ≡ k) where
+  pub zeros-failed : i < length bs → (getD bs i 0 ≡ 0 → ⊥) → false ≡ k
+  unfolding zeros
+  zeros-failed h e = all-failed (λ b. eqb b 0) bs i v 0 h (ne-eqb (getD bs i 0) 0 e)
+
+  pub zeros-on : i < length bs → getD bs i 0 ≡ 0 → zeros (drop (i + 1) bs) ≡ k
+  unfolding zeros
+  zeros-on h e = all-on (λ b. eqb b 0) bs i v 0 h (eq-eqb (getD bs i 0) 0 e)
+
+  pub zeros-end : length bs ≤ i → true ≡ k
+  unfolding zeros
+  zeros-end h = all-end (λ b. eqb b 0) bs i v h
 
 pub length-put : (k : ℕ) (bs : List ℕ) (at v : ℕ) → length (put k bs at v) ≡ length bs
 unfolding put

@@ -4,8 +4,7 @@ use borrow.Author.Needs.{needs}
 use Prim.Native.Nat.{_-_}
 use mathlib.Core.Path.{_≡_, refl}
 use lib.ListN.{length, drop}
-use Rattle.wire.specs.Fields.{zeros}
-use Rattle.objects.proofs.Scanning.{zeros-failed, zeros-on, zeros-end}
+use Rattle.wire.specs.Fields.{zeros, zeros-failed, zeros-on, zeros-end}
 use Rattle.objects.proofs.zero_from.Statement.{statement}
 use Rattle.objects.proofs.zero_from.Tie as tie
 

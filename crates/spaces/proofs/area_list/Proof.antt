@@ -1,5 +1,4 @@
 -- Two columns.
-use mathlib.Core.Path.{refl}
 use Rattle.spaces.specs.Allow.{areaList}
 use Rattle.spaces.proofs.Listing.{list-is}
 use borrow.Author.Needs.{needs}

@@ -1,6 +1,6 @@
 -- The checks in order.
-use mathlib.Core.Path.{refl, ap, _∙_}
-use mathlib.Core.Bool.{Bool, not, _||_}
+use mathlib.Core.Path.{ap}
+use mathlib.Core.Bool.{Bool, not}
 use Rattle.lookups.specs.Settled.{checked, checked-last}
 use Rattle.spaces.specs.Allow.{listChecks}
 use Rattle.spaces.proofs.Listing.{or-is}

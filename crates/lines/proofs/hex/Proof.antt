@@ -2,8 +2,8 @@
 use borrow.Author.Needs.{needs}
 use Prim.Native.Nat.{_-_}
 use lib.ListN.{length}
-use Rattle.vectors.proofs.answers.hex.Statement.{statement}
-use Rattle.vectors.proofs.answers.hex.Tie as tie
+use Rattle.lines.proofs.hex.Statement.{statement}
+use Rattle.lines.proofs.hex.Tie as tie
 
 abbrev Inv-loop : tie.InvT-loop
 Inv-loop s i₀ i = Unit {0}
