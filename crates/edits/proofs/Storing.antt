@@ -1,22 +1,25 @@
 -- What each return of the code gives, in the words of the definitions.
 use Prim.Native.Nat.{ℕ, zero, suc, _+_, _≤_, _<_, _^_}
 use mathlib.Core.Path.{_≡_, refl, sym, ap, _∙_}
+use mathlib.Core.Bool.{Bool, true, false, cond}
 use mathlib.Core.List.{List, map}
 use native.Mathlib.Omega.{arith}
 use lib.IntN.{ℤ, pos}
 use lib.ListN.{length, set, replicate}
 use lib.Seq.{set-out}
-use borrow.Author.Tests.{eq-eqb, ne-eqb, le-leb, lt-leb, lt-ltb, le-ltb}
+use borrow.Author.Tests.{le-leb, lt-leb, lt-ltb, le-ltb}
 use Rattle.command.specs.Results.{result}
+use Rattle.ranges.specs.declared.Range.{Range}
+use Rattle.ranges.specs.Ranges.{U64MAX, range}
 use Rattle.table.specs.declared.Object.{Object}
 use Rattle.table.specs.declared.Mapping.{Mapping}
 use Rattle.table.specs.declared.Table.{Table}
-use Rattle.table.specs.Records.{zeroMapping, freeObject, freshTable, ofSpace}
-use Rattle.table.specs.Cleared.{release, release-true, release-false}
-use Rattle.edits.specs.declared.Change.the-variants.{Nothing, Put, Drop}
+use Rattle.table.specs.Records.{zeroMapping, freeObject, freshTable, ofSpace, within}
+use Rattle.table.specs.Cleared.{release, release-same, within-all}
+use Rattle.edits.specs.declared.Change.the-variants.{Nothing, Put, Drop, Map, Clear}
 use Rattle.edits.specs.declared.Answer.{Answer}
 use Rattle.edits.specs.declared.Edit.{Edit}
-use Rattle.edits.specs.Edits.{putObject, dropSpace, changed, applied}
+use Rattle.edits.specs.Edits.{putObject, dropSpace, putMapping, clearInside, changed, applied}
 use Rattle.edits.specs.Answers.{refusedBy, idOr, freshAnswer}
 
 module _ (t : Table) (i : ℕ) where
@@ -28,19 +31,29 @@ module _ (t : Table) (i : ℕ) where
   unfolding dropSpace
   drop-past h = rw (le-leb 32 i h)
 
-  pub drop-here : (os : List Object) (ms : List Mapping) → i < 32 → os ≡ set (t .objects) i freeObject → ms ≡ map (release (ofSpace (i + 1))) (t .mappings)
+  pub drop-here : (os : List Object) (ms : List Mapping) → i < 32 → os ≡ set (t .objects) i freeObject → ms ≡ map (release (within (i + 1) (range 0 U64MAX))) (t .mappings)
       → _≡_ {A = Table} record { limit = t .limit; objects = os; mappings = ms } (dropSpace t i)
   unfolding dropSpace
-  drop-here os ms h p q = rw (lt-leb 32 i h, p, q)
+  drop-here os ms h p q = rw (lt-leb 32 i h, p, q ∙ release-same (within (i + 1) (range 0 U64MAX)) (ofSpace (i + 1)) (t .mappings) (within-all (i + 1)))
 
-module _ (s : ℕ) (m : Mapping) where
-  pub release-same : m .space ≡ s → zeroMapping ≡ release (ofSpace s) m
-  unfolding ofSpace
-  release-same e = sym (release-true (ofSpace s) m (eq-eqb (m .space) s e))
+-- a record that goes, and one that stays
+pub gone-yes : (m : Mapping) (gone : Bool) → gone ≡ true → zeroMapping ≡ cond gone zeroMapping m
+gone-yes m gone e = rw e
 
-  pub release-other : (m .space ≡ s → ⊥) → m ≡ release (ofSpace s) m
-  unfolding ofSpace
-  release-other e = sym (release-false (ofSpace s) m (ne-eqb (m .space) s e))
+pub gone-no : (m : Mapping) (gone : Bool) → gone ≡ false → m ≡ cond gone zeroMapping m
+gone-no m gone e = rw e
+
+pub release-by : (p : Mapping → Bool) (m r : Mapping) (gone : Bool) → gone ≡ p m → r ≡ cond gone zeroMapping m → r ≡ release p m
+unfolding release
+release-by p m r gone e f = f ∙ rw e
+
+pub put-mapping-past : (t : Table) (i : ℕ) (m : Mapping) → length (t .mappings) ≡ 128 → 128 ≤ i → t ≡ putMapping t i m
+unfolding putMapping
+put-mapping-past t i m l h = ap (λ (ms : List Mapping). record { limit = t .limit; objects = t .objects; mappings = ms }) (sym (set-out (t .mappings) i m (rw l h)))
+
+pub clear-by : (t : Table) (s : ℕ) (r : Range) (ms : List Mapping) → ms ≡ map (release (within s r)) (t .mappings) → _≡_ {A = Table} record { limit = t .limit; objects = t .objects; mappings = ms } (clearInside t s r)
+unfolding clearInside
+clear-by t s r ms e = rw e
 
 -- the change decides
 module _ (t : Table) (e : Edit) where
@@ -51,6 +64,14 @@ module _ (t : Table) (e : Edit) where
   pub by-put : (i : ℕ) (r : Table) → e .change ≡ Put i → r ≡ putObject t i (e .object) → r ≡ applied t e
   unfolding applied
   by-put i r h k = k ∙ ap (changed t (e .object)) (sym h)
+
+  pub by-map : (i : ℕ) (m : Mapping) (r : Table) → e .change ≡ Map i m → r ≡ putMapping t i m → r ≡ applied t e
+  unfolding applied
+  by-map i m r h k = k ∙ ap (changed t (e .object)) (sym h)
+
+  pub by-clear : (s : ℕ) (q : Range) (r : Table) → e .change ≡ Clear s q → r ≡ clearInside t s q → r ≡ applied t e
+  unfolding applied
+  by-clear s q r h k = k ∙ ap (changed t (e .object)) (sym h)
 
   pub by-drop : (i : ℕ) (r : Table) → e .change ≡ Drop i → r ≡ dropSpace t i → r ≡ applied t e
   unfolding applied

@@ -1,8 +1,10 @@
 -- What a call gives back (document 01, "Errno numbers"): 0 or the negative of the errno, and the table. A refusal leaves the table as it was.
 use Prim.Native.Nat.{ℕ, zero, suc, _^_}
 use mathlib.Core.Bool.{cond}
-use lib.Dec.{ltb}
+use mathlib.Core.List.{List}
+use lib.Dec.{ltb, eqb}
 use lib.IntN.{ℤ, pos}
+use Rattle.wire.specs.Fields.{put}
 use Rattle.command.specs.Results.{result}
 use Rattle.table.specs.declared.Table.{Table}
 use Rattle.table.specs.Records.{freshTable}
@@ -23,6 +25,10 @@ idOr (suc n) id = result (suc n)
 
 unfoldable pub outcomeId : Table → Edit → Answer
 outcomeId t e = record { result = idOr (e .errno) (e .value); table = applied t e }
+
+-- a reply writes its output field where the call succeeds: a number of so many bytes at its offset
+unfoldable pub replied : ℕ → ℕ → ℕ → ℕ → List ℕ → List ℕ
+replied size off errno value bytes = cond (eqb errno 0) (put size bytes off value) bytes
 
 -- a fresh table: 0, or 22 for a limit above 2^36, with a table that is bad (rule 9)
 unfoldable pub freshAnswer : ℕ → Answer

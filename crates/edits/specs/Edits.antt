@@ -1,16 +1,18 @@
--- An edit: what a call that places no mapping decides over a good table. Deciding changes nothing; `applied` is the table after it.
+-- An edit: what a call decides over a good table. Deciding changes nothing; `applied` is the table after it.
 use Prim.Native.Nat.{ℕ, zero, suc, _+_}
 use mathlib.Core.Bool.{cond}
 use mathlib.Core.List.{map}
 use mathlib.Core.Option.{Option, none, some}
 use lib.Dec.{leb}
 use lib.ListN.{set}
+use Rattle.ranges.specs.declared.Range.{Range}
 use Rattle.table.specs.declared.Object.{Object}
+use Rattle.table.specs.declared.Mapping.{Mapping}
 use Rattle.table.specs.declared.Table.{Table}
-use Rattle.table.specs.Records.{freeObject, ofSpace}
+use Rattle.table.specs.Records.{freeObject, ofSpace, within}
 use Rattle.table.specs.Cleared.{release}
 use Rattle.edits.specs.declared.Change.{Change}
-use Rattle.edits.specs.declared.Change.the-variants.{Nothing, Put, Drop}
+use Rattle.edits.specs.declared.Change.the-variants.{Nothing, Put, Drop, Map, Clear}
 use Rattle.edits.specs.declared.Edit.{Edit}
 
 abbrev pub refuse : ℕ → Edit
@@ -37,10 +39,20 @@ putObject t i n = record { limit = t .limit; objects = set (t .objects) i n; map
 unfoldable pub dropSpace : Table → ℕ → Table
 dropSpace t i = cond (leb 32 i) t record { limit = t .limit; objects = set (t .objects) i freeObject; mappings = map (release (ofSpace (i + 1))) (t .mappings) }
 
+-- the mapping record at place i becomes m
+unfoldable pub putMapping : Table → ℕ → Mapping → Table
+putMapping t i m = record { limit = t .limit; objects = t .objects; mappings = set (t .mappings) i m }
+
+-- the mappings of space s that lie wholly inside r are released
+unfoldable pub clearInside : Table → ℕ → Range → Table
+clearInside t s r = record { limit = t .limit; objects = t .objects; mappings = map (release (within s r)) (t .mappings) }
+
 abbrev pub changed : Table → Object → Change → Table
 changed t n Nothing = t
 changed t n (Put i) = putObject t i n
 changed t n (Drop i) = dropSpace t i
+changed t n (Map i m) = putMapping t i m
+changed t n (Clear s r) = clearInside t s r
 
 unfoldable pub applied : Table → Edit → Table
 applied t e = changed t (e .object) (e .change)

@@ -1,12 +1,12 @@
 -- An edit keeps a sound table sound, given what the checks of its call have shown of the new object.
 use Prim.Native.Nat.{ℕ, zero, suc, _+_, _≤_, _<_}
 use mathlib.Core.Path.{_≡_, refl, sym, ap, _∙_}
-use mathlib.Core.Bool.{Bool, true, false, not}
+use mathlib.Core.Bool.{Bool, true, false}
 use mathlib.Core.List.{List, map}
 use mathlib.Core.Option.{Option, none, some}
 use native.Mathlib.Numerals.{add-one}
 use native.Mathlib.Omega.{arith}
-use lib.Dec.{leb, eqb}
+use lib.Dec.{eqb}
 use lib.ListN as ListN
 use lib.ListN.{getD, set, length-set, length-map}
 use borrow.Author.Tests.{lt-leb, eqb-false}
@@ -41,7 +41,7 @@ unfolding objectOk deviceNames deviceValid listValid listClear objectZero noDevi
 free-ok os = refl
 
 -- what is released charges nothing
-charge-less : (t : Table) (p : Mapping → Bool) → Sound t → charge (map (release p) (t .mappings)) ≤ t .limit
+pub charge-less : (t : Table) (p : Mapping → Bool) → Sound t → charge (map (release p) (t .mappings)) ≤ t .limit
 unfolding charge
 charge-less t p g = omega (arith, release-charge (t .objects) (g .info) (t .mappings) (g .records) (g .agree) p (λ m. true), g .charged)
 

@@ -1,12 +1,12 @@
 -- "A call on one space changes no mapping, list or device of another" (document 01), as a relation between the tables before and after.
 use Prim.Native.Nat.{ℕ, zero, suc, _+_}
-use mathlib.Core.Path.{_≡_, refl, sym, ap, _∙_}
-use mathlib.Core.Bool.{true, false, cond}
+use mathlib.Core.Path.{_≡_, refl, sym, _∙_}
+use mathlib.Core.Bool.{Bool, true, false, cond}
 use mathlib.Core.List.{List, [], _∷_, map}
 use mathlib.Core.Option.{Option, none, some}
 use native.Mathlib.Numerals.{add-one}
 use lib.Dec.{leb, eqb}
-use lib.ListN.{getD, set}
+use lib.ListN.{getD}
 use lib.Seq.{map-set-same}
 use borrow.Author.Tests.{eqb-true}
 use Rattle.lists.specs.Tests.{by-test, contrary}
@@ -51,17 +51,21 @@ put-untouched s t i n ne old new = record {
   devices = map-set-same (onlyAt s) (t .objects) i n freeObject (rw (old, new));
 }
 
--- another space is released
-release-onlyOf : (s k : ℕ) (m : Mapping) → (s ≡ k → ⊥) → onlyOf s (release (ofSpace k) m) ≡ onlyOf s m
+-- only mappings of another space are released
+release-onlyOf : (s k : ℕ) (p : Mapping → Bool) (m : Mapping) → (s ≡ k → ⊥) → (p m ≡ true → m .space ≡ k) → onlyOf s (release p m) ≡ onlyOf s m
 unfolding onlyOf ofSpace
-release-onlyOf s k m ne =
-    by-test (eqb (m .space) k)
-    (λ e. rw (release-true (ofSpace k) m e) (by-test (eqb (m .space) s) (λ f. absurd (ne (sym (eqb-true (m .space) s f) ∙ eqb-true (m .space) k e))) (λ f. rw f (by-test (eqb 0 s) (λ z. rw z) (λ z. rw z)))))
-    (λ e. rw (release-false (ofSpace k) m e))
+release-onlyOf s k p m ne h =
+    by-test (p m)
+    (λ e. rw (release-true p m e) (by-test (eqb (m .space) s) (λ f. absurd (ne (sym (eqb-true (m .space) s f) ∙ h e))) (λ f. rw f (by-test (eqb 0 s) (λ z. rw z) (λ z. rw z)))))
+    (λ e. rw (release-false p m e))
 
-map-onlyOf : (s k : ℕ) (ms : List Mapping) → (s ≡ k → ⊥) → map (onlyOf s) (map (release (ofSpace k)) ms) ≡ map (onlyOf s) ms
-map-onlyOf s k [] ne = refl
-map-onlyOf s k (m ∷ ms) ne = rw (release-onlyOf s k m ne, map-onlyOf s k ms ne)
+pub map-onlyOf : (s k : ℕ) (p : Mapping → Bool) (ms : List Mapping) → (s ≡ k → ⊥) → ((m : Mapping) → p m ≡ true → m .space ≡ k) → map (onlyOf s) (map (release p) ms) ≡ map (onlyOf s) ms
+map-onlyOf s k p [] ne h = refl
+map-onlyOf s k p (m ∷ ms) ne h = rw (release-onlyOf s k p m ne (h m), map-onlyOf s k p ms ne h)
+
+of-space : (k : ℕ) (m : Mapping) → ofSpace k m ≡ true → m .space ≡ k
+unfolding ofSpace
+of-space k m e = eqb-true (m .space) k e
 
 pub drop-untouched : (s : ℕ) (t : Table) (i : ℕ) → (s ≡ suc i → ⊥) → attachedTo s (getD (t .objects) i freeObject .kind) ≡ false → Untouched s t (dropSpace t i)
 unfolding dropSpace onlyAt
@@ -69,7 +73,7 @@ drop-untouched s t i ne old =
     by-test (leb 32 i)
     (λ e. rw e (untouched-same s t))
     (λ e. rw e (record {
-      mappings = map-onlyOf s (i + 1) (t .mappings) (λ q. ne (q ∙ add-one i));
+      mappings = map-onlyOf s (i + 1) (ofSpace (i + 1)) (t .mappings) (λ q. ne (q ∙ add-one i)) (of-space (i + 1));
       itself = objectAt-set-other (t .objects) i freeObject s ne;
       devices = map-set-same (onlyAt s) (t .objects) i freeObject freeObject (rw old);
     }))

@@ -1,13 +1,15 @@
 // What a call decides, as a small edit, and the one function that applies it.
+ghost use mathlib.Core.Bool.{cond};
 ghost use mathlib.Core.List.{map};
 ghost use mathlib.Core.Path.{_≡_};
 ghost use Prim.Native.Nat.{_<_};
-ghost use Rattle.table.specs.Records.{freeObject, newSpace, ofSpace};
+ghost use Rattle.table.specs.Records.{freeObject, newSpace, zeroMapping, within};
 ghost use Rattle.table.specs.Cleared.{release};
-ghost use Rattle.edits.specs.Edits.{refuse, accept, putObject, dropSpace, applied};
+ghost use Rattle.edits.specs.Edits.{refuse, accept, putObject, dropSpace, putMapping, clearInside, applied};
 ghost use Rattle.edits.specs.Answers.{refusedBy, outcome, outcomeId, freshAnswer};
 use rangelists::Allowed;
 use rangelists::Reserved;
+use ranges::Range;
 use table::Kind;
 use table::Mapping;
 use table::Object;
@@ -19,6 +21,10 @@ pub enum Change {
     Put(usize),
     // The space at a place is released, and its mappings with it.
     Drop(usize),
+    // The mapping record at a place becomes this mapping.
+    Map(usize, Mapping),
+    // The mappings of a space that lie wholly inside a range are released.
+    Clear(u32, Range),
 }
 
 // The errno, or 0 with what to change and the number that the reply tells.
@@ -113,11 +119,11 @@ pub fn put_object(t: Table, i: usize, object: Object) -> Table
     next
 }
 
-// A record of the space becomes all zero, another stays.
-fn released(space: u32, m: Mapping) -> Mapping
-    ensures { λ r. ⌜ r ≡ release (ofSpace space) m ⌝ }
+// A record that goes becomes all zero, another stays.
+fn released(gone: bool, m: Mapping) -> Mapping
+    ensures { λ r. ⌜ r ≡ cond gone zeroMapping m ⌝ }
 {
-    if m.space == space {
+    if gone {
         return Mapping {
             space: 0,
             rights: 0,
@@ -131,18 +137,40 @@ fn released(space: u32, m: Mapping) -> Mapping
     m
 }
 
-// The mapping records with those of a space released.
-fn without_space(ms: [Mapping; 128], space: u32) -> [Mapping; 128]
-    ensures { λ r. ⌜ r ≡ map (release (ofSpace space)) ms ⌝ }
+// The mapping records with those of a space inside a range released.
+fn cleared(ms: [Mapping; 128], s: u32, r: Range) -> [Mapping; 128]
+    ensures { λ a. ⌜ a ≡ map (release (within s r)) ms ⌝ }
 {
     let mut next = ms;
     let mut k: usize = 0;
     while k < 128 {
         let m = ms[k];
-        let r = released(space, m);
-        next[k] = r;
+        let gone = table::is_within(m, s, r);
+        let kept = released(gone, m);
+        next[k] = kept;
         k += 1;
     }
+    next
+}
+
+pub fn put_mapping(t: Table, i: usize, m: Mapping) -> Table
+    ensures { λ r. ⌜ r ≡ putMapping t i m ⌝ }
+{
+    if 128 <= i {
+        return t;
+    }
+    let mut next = t;
+    next.mappings[i] = m;
+    next
+}
+
+pub fn clear_inside(t: Table, s: u32, r: Range) -> Table
+    ensures { λ u. ⌜ u ≡ clearInside t s r ⌝ }
+{
+    let ms = t.mappings;
+    let kept = cleared(ms, s, r);
+    let mut next = t;
+    next.mappings = kept;
     next
 }
 
@@ -154,7 +182,11 @@ pub fn drop_space(t: Table, i: usize) -> Table
     }
     let object = free_object();
     let ms = t.mappings;
-    let kept = without_space(ms, (i + 1) as u32);
+    let all = Range {
+        start: 0,
+        last: ranges::U64MAX,
+    };
+    let kept = cleared(ms, (i + 1) as u32, all);
     let mut next = t;
     next.objects[i] = object;
     next.mappings = kept;
@@ -172,6 +204,8 @@ pub fn apply(t: Table, e: Edit) -> Table
             put_object(t, i, object)
         }
         Change::Drop(i) => drop_space(t, i),
+        Change::Map(i, m) => put_mapping(t, i, m),
+        Change::Clear(s, r) => clear_inside(t, s, r),
     }
 }
 

@@ -15,10 +15,11 @@ use Rattle.lists.specs.Pairs.{clashes, clashes-nil}
 use Rattle.table.specs.declared.Mapping.{Mapping}
 use Rattle.table.specs.Records.{zeroMapping}
 use Rattle.table.specs.Charge.{backs, charge}
+use Rattle.table.specs.Charged.{backs-of}
 use Rattle.table.specs.Good.{differ, backingsAgree}
 use Rattle.records.specs.Alone.{numbered, numbered-most}
 use Rattle.records.specs.Ends.{take-turn, all-take, seek-append-some, seek-append-none, seek-append-other, clashes-append, clashes-at}
-use Rattle.records.specs.Charging.{differ-self, backs-of, agree-first, agree-none, charge-nil, charge-append, chargedOf, leaderPlace, markAfter, addedBy}
+use Rattle.records.specs.Charging.{differ-self, agree-first, agree-none, charge-nil, charge-append, chargedOf, leaderPlace, markAfter, addedBy}
 use Rattle.records.specs.declared.Charged.the-variants.{Disagree, Sum}
 
 -- the mark of a backing: one more than the place of its first record

@@ -3,19 +3,19 @@ use Prim.Native.Nat.{ℕ, _+_, _-_, _≤_, _<_}
 use mathlib.Core.Path.{_≡_, refl, sym, ap, _∙_}
 use mathlib.Core.Bool.{Bool, true, false, not, _&&_, cond}
 use mathlib.Core.List.{List, [], _∷_, _++_}
-use mathlib.Core.Option.{Option, none, some}
+use mathlib.Core.Option.{some}
 use native.Mathlib.Omega.{arith}
 use lib.Dec.{leb, eqb}
 use lib.ListN.{length, getD}
 use borrow.Author.Tests.{eqb-true, eqb-false, eq-eqb, ne-eqb, leb-true, leb-false, not-true, not-false}
-use Rattle.lists.specs.Tests.{by-test, contrary, same-test, and-left, and-right, and-not-right, onlyIf, onlyIf-false}
-use Rattle.lists.specs.Search.{any, all, find, seek, any-at, any-place, any-none, all-at, find-cons-true, find-cons-false, find-any-true, find-any-false, seek-some-lt, seek-some-at, seek-some-before, seek-any-true}
-use Rattle.lists.specs.Each.{Each-places, all-Each}
-use Rattle.lists.specs.Pairs.{clashes, clashes-false-at, clashes-place}
+use Rattle.lists.specs.Tests.{by-test, contrary, and-left, and-right, and-not-right, onlyIf, onlyIf-false}
+use Rattle.lists.specs.Search.{any, all, find, seek, any-place, any-none, all-at, find-cons-true, find-cons-false, find-any-true, find-any-false, seek-some-lt, seek-some-at, seek-some-before}
+use Rattle.lists.specs.Pairs.{clashes, clashes-false-at}
 use Rattle.lists.specs.Below.{sumBelow, sumBelow-cong, sumBelow-zero, sumBelow-add, sumBelow-only}
 use Rattle.table.specs.declared.Mapping.{Mapping}
 use Rattle.table.specs.Records.{used, zeroMapping}
 use Rattle.table.specs.Charge.{backs, mappingPages, backingPages, chargeIn, charge}
+use Rattle.table.specs.Charged.{backs-is, backs-of}
 use Rattle.table.specs.Good.{differ, backingsAgree}
 use Rattle.records.specs.Alone.{numbered, numbered-used, numbered-released, numbered-backed}
 use Rattle.records.specs.Ends.{find-append-some, find-append-none}
@@ -66,22 +66,6 @@ differ-self m =
     (λ e. contrary (alike m m) (alike-of m m refl refl refl) (differ-parts m m e .3))
     (λ e. e)
 
-pub backs-true : (b : ℕ) (m : Mapping) → backs b m ≡ true → m .backing ≡ b
-unfolding backs
-backs-true b m e = eqb-true (m .backing) b e
-
-pub backs-of : (b : ℕ) (m : Mapping) → m .backing ≡ b → backs b m ≡ true
-unfolding backs
-backs-of b m e = eq-eqb (m .backing) b e
-
--- the first record of its backing does not differ from it
-abbrev pub agreesAt : List Mapping → Mapping → Option ℕ → Bool
-agreesAt ms m none = true
-agreesAt ms m (some k) = not (differ (getD ms k zeroMapping) m)
-
-unfoldable pub agreesFirst : List Mapping → Mapping → Bool
-agreesFirst ms m = agreesAt ms m (seek (backs (m .backing)) 0 ms)
-
 module _ (ms : List Mapping) (num : all numbered ms ≡ true) where
   -- the first record of a backing is in use where one of them is
   first-used : (k j : ℕ) → k < length ms → j < length ms → getD ms k zeroMapping .backing ≡ getD ms j zeroMapping .backing → used (getD ms j zeroMapping) ≡ true → used (getD ms k zeroMapping) ≡ true
@@ -94,7 +78,7 @@ module _ (ms : List Mapping) (num : all numbered ms ≡ true) where
     first-place = omega (arith, seek-some-lt (backs b) 0 ms k s .1)
 
     first-backing : getD ms k zeroMapping .backing ≡ b
-    first-backing = backs-true b (getD ms k zeroMapping) (seek-some-at (backs b) 0 ms zeroMapping k (let z : k ≡ 0 + k = omega arith in s ∙ ap some z))
+    first-backing = backs-is (getD ms k zeroMapping) b (seek-some-at (backs b) 0 ms zeroMapping k (let z : k ≡ 0 + k = omega arith in s ∙ ap some z))
 
     first-least : (j : ℕ) → getD ms j zeroMapping .backing ≡ b → k ≤ j
     first-least j e =
@@ -127,38 +111,6 @@ module _ (ms : List Mapping) (num : all numbered ms ≡ true) where
           (first-like (m .backing) k s (getD ms j zeroMapping) j h (p .0) (p .2) (p .0) (p .2) (clashes-false-at differ ms zeroMapping k j l h ok))
           (first-like (m .backing) k s m j h (p .0) (p .2) (p .1) refl d))
           (p .3))
-
-  agreed : all (agreesFirst ms) ms ≡ true → (i : ℕ) → i < length ms → (k : ℕ) → seek (backs (getD ms i zeroMapping .backing)) 0 ms ≡ some k → differ (getD ms k zeroMapping) (getD ms i zeroMapping) ≡ false
-  unfolding agreesFirst
-  agreed e i h k s =
-      not-true (differ (getD ms k zeroMapping) (getD ms i zeroMapping))
-      (ap (agreesAt ms (getD ms i zeroMapping)) (sym s) ∙ all-at (agreesFirst ms) ms zeroMapping e i h)
-
-  -- THE LAW: the records of each backing agree exactly if each agrees with the first of its backing
-  pub agree-by-first : backingsAgree ms ≡ all (agreesFirst ms) ms
-  unfolding backingsAgree agreesFirst
-  agree-by-first =
-      same-test (backingsAgree ms) (all (agreesFirst ms) ms)
-      (λ e. all-Each (agreesFirst ms) ms (Each-places (λ m. agreesFirst ms m ≡ true) ms zeroMapping (λ i h. to (not-true (clashes differ ms) e) i h (seek (backs (getD ms i zeroMapping .backing)) 0 ms) refl)))
-      (λ e. by-test (clashes differ ms) (λ t. let w = clashes-place differ ms zeroMapping t in back e (w .0) (w .1) (w .2) (w .3) (w .4)) (λ t. rw t))
-    where
-      to : clashes differ ms ≡ false → (i : ℕ) → i < length ms → (o : Option ℕ) → seek (backs (getD ms i zeroMapping .backing)) 0 ms ≡ o → agreesAt ms (getD ms i zeroMapping) o ≡ true
-      to ok i h none s = refl
-      to ok i h (some k) s =
-          by-test (eqb k i)
-          (λ t. rw (eqb-true k i t, differ-self (getD ms i zeroMapping)))
-          (λ t. rw (clashes-false-at differ ms zeroMapping k i (omega (arith, eqb-false k i t, first-least (getD ms i zeroMapping .backing) k s i refl)) h ok))
-
-      back : all (agreesFirst ms) ms ≡ true → (i j : ℕ) → i < j → j < length ms → differ (getD ms i zeroMapping) (getD ms j zeroMapping) ≡ true → not (clashes differ ms) ≡ true
-      back e i j l h d =
-          let p = differ-parts (getD ms i zeroMapping) (getD ms j zeroMapping) d in
-          let hi : i < length ms = omega arith in
-          let r = seek-any-true (backs (getD ms j zeroMapping .backing)) 0 ms (any-at (backs (getD ms j zeroMapping .backing)) ms zeroMapping j h (backs-of (getD ms j zeroMapping .backing) (getD ms j zeroMapping) refl)) in
-          contrary (alike (getD ms i zeroMapping) (getD ms j zeroMapping))
-          (alike-third (getD ms (r .0) zeroMapping) (getD ms i zeroMapping) (getD ms j zeroMapping)
-          (first-like (getD ms j zeroMapping .backing) (r .0) (r .1) (getD ms i zeroMapping) j h (p .1) refl (p .0) (p .2) (agreed e i hi (r .0) (ap (λ (b : ℕ). seek (backs b) 0 ms) (p .2) ∙ r .1)))
-          (first-like (getD ms j zeroMapping .backing) (r .0) (r .1) (getD ms j zeroMapping) j h (p .1) refl (p .1) refl (agreed e j h (r .0) (r .1))))
-          (p .3)
 
 pub agree-none : (ms : List Mapping) (m : Mapping) → any (backs (m .backing)) ms ≡ false → any (λ y. differ y m) ms ≡ false
 agree-none ms m e = any-none (λ y. differ y m) (backs (m .backing)) ms (λ y t. backs-of (m .backing) y (differ-parts y m t .2)) e

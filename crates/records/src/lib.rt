@@ -215,7 +215,7 @@ fn mark_after(mark: u8, i: usize) -> u8
 }
 
 // The pages that a record adds to the charge: none where its backing has a mark.
-fn pages_if(mark: u8, m: Mapping) -> u64
+pub fn pages_if(mark: u8, m: Mapping) -> u64
     ensures { λ r. ⌜ (r ≡ addedBy mark m) × (r ≤ 2 ^ 53) ⌝ }
 {
     if mark != 0 {

@@ -1,16 +1,19 @@
 -- What the leaves over kinds and rights return, in the words of the definitions.
 use Prim.Native.Nat.{ℕ, _/_, _%_}
 use mathlib.Core.Path.{_≡_, sym, ap, _∙_}
+use mathlib.Core.Bool.{Bool, _&&_}
 use native.Mathlib.Nat.{div-one}
 use lib.Bits.{bitAnd, and-mask}
 use lib.Dec.{eqb}
 use Rattle.command.specs.Flags.{bit}
+use Rattle.ranges.specs.declared.Range.{Range}
+use Rattle.ranges.specs.Ranges.{span, share, inside}
 use Rattle.table.specs.declared.Attachment.{Attachment}
 use Rattle.table.specs.declared.Attachment.the-variants.{Attached}
 use Rattle.table.specs.declared.Kind.{Kind}
 use Rattle.table.specs.declared.Kind.the-variants.{Device}
 use Rattle.table.specs.declared.Mapping.{Mapping}
-use Rattle.table.specs.Records.{attachedTo, canWrite, canRead}
+use Rattle.table.specs.Records.{attachedTo, ofSpace, extent, touches, within, canWrite, canRead}
 
 pub attached-at : (s h : ℕ) (a : Attachment) (k : Kind) → k ≡ Device a → a ≡ Attached h → eqb h s ≡ attachedTo s k
 attached-at s h a k e f = sym (ap (attachedTo s) (e ∙ ap Device f))
@@ -22,3 +25,12 @@ write-bit m = ap (λ (x : ℕ). eqb x 1) (and-mask (m .rights) 1 ∙ ap (λ (x :
 pub read-bit : (m : Mapping) → eqb (bitAnd (m .rights / 2) 1) 1 ≡ canRead m
 unfolding canRead bit
 read-bit m = ap (λ (x : ℕ). eqb x 1) (and-mask (m .rights / 2) 1)
+
+-- the space and the addresses at once
+pub touched-by : (s : ℕ) (r : Range) (m : Mapping) (q : Range) (i b : Bool) → q ≡ span (m .address) (m .length) → i ≡ share r q → b ≡ (eqb (m .space) s && i) → b ≡ touches s r m
+unfolding touches ofSpace extent
+touched-by s r m q i b e f g = g ∙ ap (λ (x : Bool). eqb (m .space) s && x) (f ∙ ap (share r) e)
+
+pub within-by : (s : ℕ) (r : Range) (m : Mapping) (q : Range) (i b : Bool) → q ≡ span (m .address) (m .length) → i ≡ inside q r → b ≡ (eqb (m .space) s && i) → b ≡ within s r m
+unfolding within ofSpace extent
+within-by s r m q i b e f g = g ∙ ap (λ (x : Bool). eqb (m .space) s && x) (f ∙ ap (λ (x : Range). inside x r) e)

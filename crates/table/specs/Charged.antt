@@ -1,25 +1,25 @@
 -- The charge of a sound list of records, by the witness of its backings; and the lowest free backing number, which is there whenever a record is free.
-use Prim.Native.Nat.{ℕ, zero, suc, _+_, _≤_, _<_}
+use Prim.Native.Nat.{ℕ, suc, _+_, _≤_, _<_}
 use mathlib.Core.Path.{_≡_, refl, sym, ap, subst, _∙_}
 use mathlib.Core.Bool.{Bool, true, false, not, _&&_, _||_}
 use mathlib.Core.List.{List, [], _∷_, map}
-use mathlib.Core.Option.{none, some}
+use mathlib.Core.Option.{some}
 use native.Mathlib.Numerals.{add-one}
 use native.Mathlib.Omega.{arith}
 use lib.Dec.{eqb}
 use lib.ListN as ListN
-use borrow.Author.Tests.{eqb-true, ne-eqb}
+use borrow.Author.Tests.{eqb-true, eq-eqb, ne-eqb}
 use Rattle.lists.specs.Tests.{by-test, onlyIf, onlyIf-mono, onlyIf-true, onlyIf-false, and-right}
-use Rattle.lists.specs.Search.{any, any-mono, find, find-cons-true, find-cons-false, seek, seek-some-lt, seek-some-at}
+use Rattle.lists.specs.Search.{any, any-mono, find, find-cons-true, find-cons-false, seek-some-lt, seek-some-at}
 use Rattle.lists.specs.Each.{Each, Each-imp, Each-zip}
-use Rattle.lists.specs.Sums.{sumOf, sumOf-le, countOf}
-use Rattle.lists.specs.Below.{sumBelow, sumBelow-cong, sumBelow-le, sumBelow-zero, sumBelow-some-zero, sumOf-sumBelow, countBelow, countBelow-one, lowest, lowest-exists}
+use Rattle.lists.specs.Sums.{sumOf-le, countOf}
+use Rattle.lists.specs.Below.{sumBelow, sumBelow-cong, sumBelow-le, sumBelow-zero, sumBelow-some-zero, sumOf-sumBelow, countBelow, countBelow-one, lowest-exists}
 use Rattle.lists.specs.Update.{any-map}
 use Rattle.ranges.specs.Pages.{pagesTouched}
 use Rattle.table.specs.declared.Object.{Object}
 use Rattle.table.specs.declared.Mapping.{Mapping}
 use Rattle.table.specs.Records.{zeroMapping, used}
-use Rattle.table.specs.Charge.{backs, mappingPages, pagesFound, backingPages, chargeIn, charge, freeMapping, freeBacking}
+use Rattle.table.specs.Charge.{backs, mappingPages, pagesFound, backingPages, chargeIn, freeMapping, freeBacking}
 use Rattle.table.specs.Checked.{recordOk}
 use Rattle.table.specs.Sound.{Backing, Shares, Agree}
 use Rattle.table.specs.Facts.{record-free}
@@ -30,7 +30,7 @@ use Rattle.table.specs.Once.{countOf-some, countOf-at, countOf-not}
 unfoldable pub infoPages : Backing → ℕ
 infoPages b = pagesTouched (b .memory) (b .length)
 
-shares-pages : (b : Backing) (m : Mapping) → Shares b m → mappingPages m ≡ infoPages b
+pub shares-pages : (b : Backing) (m : Mapping) → Shares b m → mappingPages m ≡ infoPages b
 unfolding mappingPages infoPages
 shares-pages b m h = rw (h .memory, h .length)
 
@@ -46,6 +46,10 @@ found-pages q c (m ∷ ms) h =
 pub backs-is : (m : Mapping) (b : ℕ) → backs b m ≡ true → m .backing ≡ b
 unfolding backs
 backs-is m b e = eqb-true (m .backing) b e
+
+pub backs-of : (b : ℕ) (m : Mapping) → m .backing ≡ b → backs b m ≡ true
+unfolding backs
+backs-of b m e = eq-eqb (m .backing) b e
 
 -- a mapping that has a backing from 1 on is used
 pub backs-used : (os : List Object) (m : Mapping) (k : ℕ) → recordOk os m ≡ true → backs (suc k) m ≡ true → used m ≡ true

@@ -1,18 +1,19 @@
 -- Mapping records that are released: every rule stays, and the charge does not grow.
-use Prim.Native.Nat.{ℕ, zero, _≤_, zero-le}
-use mathlib.Core.Path.{_≡_, refl, ap}
-use mathlib.Core.Bool.{Bool, true, false, not, cond}
-use mathlib.Core.List.{List, map}
+use Prim.Native.Nat.{ℕ, _≤_, zero-le}
+use mathlib.Core.Path.{_≡_, refl}
+use mathlib.Core.Bool.{Bool, true, false, cond}
+use mathlib.Core.List.{List, [], _∷_, map}
 use native.Mathlib.Nat.{le-of-eq}
 use native.Mathlib.Omega.{arith}
+use borrow.Author.Tests.{le-leb}
 use Rattle.lists.specs.Tests.{by-test, contrary, onlyIf}
 use Rattle.lists.specs.Each.{Each, Each-map, Each-of}
-use Rattle.lists.specs.Sums.{sumOf, countOf, sumOf-le}
+use Rattle.lists.specs.Sums.{countOf, sumOf-le}
 use Rattle.lists.specs.Update.{sumOf-map}
+use Rattle.ranges.specs.Ranges.{U64MAX, range, inside, span, lastOf, lastOf-max}
 use Rattle.table.specs.declared.Object.{Object}
 use Rattle.table.specs.declared.Mapping.{Mapping}
-use Rattle.table.specs.Records.{zeroMapping, used}
-use Rattle.table.specs.Charge.{charge}
+use Rattle.table.specs.Records.{zeroMapping, used, ofSpace, extent, within}
 use Rattle.table.specs.Checked.{recordOk}
 use Rattle.table.specs.Sound.{covers, Backing, Shares, Agree}
 use Rattle.table.specs.Facts.{zero-record}
@@ -51,3 +52,18 @@ module _ (p : Mapping → Bool) where
   pub release-once : (ms : List Mapping) → ((s a : ℕ) → countOf (covers s a) ms ≤ 1) → (s a : ℕ) → countOf (covers s a) (map (release p) ms) ≤ 1
   unfolding covers used
   release-once ms f s a = omega (arith, f s a, release-count (covers s a) refl ms)
+
+-- ---- released by their place
+
+-- a test with the same truth releases the same
+pub release-same : (p q : Mapping → Bool) (ms : List Mapping) → ((m : Mapping) → p m ≡ q m) → map (release p) ms ≡ map (release q) ms
+unfolding release
+release-same p q [] h = refl
+release-same p q (m ∷ ms) h = rw (h m, release-same p q ms h)
+
+-- every mapping of a space lies inside all addresses, also one at the last
+pub within-all : (s : ℕ) (m : Mapping) → within s (range 0 U64MAX) m ≡ ofSpace s m
+unfolding within inside extent span
+within-all s m =
+    rw (le-leb 0 (m .address) zero-le, le-leb (lastOf (m .address) (m .length)) U64MAX (lastOf-max (m .address) (m .length)))
+    (by-test (ofSpace s m) (λ e. rw e) (λ e. rw e))

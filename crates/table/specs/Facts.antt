@@ -1,9 +1,9 @@
 -- What is known of one mapping record of a good table: a used one keeps every rule, a released one is all zero.
-use Prim.Native.Nat.{ℕ, zero, _≤_, _<_, _^_}
+use Prim.Native.Nat.{ℕ, _≤_, _<_, _^_}
 use mathlib.Core.Path.{_≡_, refl, sym, ap, _∙_}
 use mathlib.Core.Bool.{Bool, true, false, not, _&&_, _||_}
 use mathlib.Core.List.{List}
-use lib.Dec.{leb, ltb, eqb}
+use lib.Dec.{leb, eqb}
 use borrow.Author.Tests.{leb-true, le-leb, ltb-true, lt-ltb, eqb-true, eq-eqb, not-true, not-false}
 use Rattle.lists.specs.Tests.{by-test, and-left, and-right, or-left, or-right, or-other}
 use Rattle.lists.specs.Search.{any}

@@ -1,18 +1,15 @@
 -- A fresh table is good, for every limit from 0 to 2^36.
 use Prim.Native.Nat.{ℕ, _≤_, _<_, _^_}
-use mathlib.Core.Path.{_≡_, refl, ap}
+use mathlib.Core.Path.{_≡_, refl}
 use mathlib.Core.Bool.{true, false}
-use mathlib.Core.List.{List}
 use native.Mathlib.Omega.{arith}
 use lib.ListN.{replicate, length-replicate}
 use Rattle.lists.specs.Tests.{by-test, contrary, onlyIf}
 use Rattle.lists.specs.Search.{all, find}
 use Rattle.lists.specs.Each.{Each-replicate}
-use Rattle.lists.specs.Sums.{countOf, sumOf, sumOf-replicate}
+use Rattle.lists.specs.Sums.{countOf, sumOf-replicate}
 use Rattle.lists.specs.Below.{sumBelow}
 use Rattle.wire.specs.Fields.{zeros}
-use Rattle.table.specs.declared.Object.{Object}
-use Rattle.table.specs.declared.Mapping.{Mapping}
 use Rattle.table.specs.Records.{freeObject, zeroMapping, used, freshTable}
 use Rattle.table.specs.Charge.{backs, backingPages, chargeIn, charge}
 use Rattle.table.specs.Good.{deviceNames, deviceValid, listValid, listClear, objectZero, noDevice, noList, reservedRest, allowRest, good}

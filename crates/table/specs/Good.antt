@@ -1,5 +1,5 @@
 -- A good table: one that is not bad by document 01's paragraph "A table is bad ..". One part for each of its rules, in its order.
-use Prim.Native.Nat.{ℕ, zero, _-_, _^_, min}
+use Prim.Native.Nat.{ℕ, _^_, min}
 use mathlib.Core.Bool.{Bool, true, not, _&&_, _||_}
 use mathlib.Core.List.{List}
 use lib.Dec.{leb, ltb, eqb}

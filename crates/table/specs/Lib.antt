@@ -11,4 +11,5 @@ pub mod Replaced
 pub mod Moved
 pub mod Cleared
 pub mod Charged
+pub mod Joined
 pub mod Fresh

@@ -1,7 +1,7 @@
 -- Mapping records after an object record is replaced: what the new object asks of a mapping is all that has to be looked at.
 use Prim.Native.Nat.{ℕ, _+_}
-use mathlib.Core.Path.{_≡_, sym, ap, _∙_}
-use mathlib.Core.Bool.{Bool, true, false, not}
+use mathlib.Core.Path.{_≡_, sym, _∙_}
+use mathlib.Core.Bool.{Bool, true, false}
 use mathlib.Core.List.{List}
 use native.Mathlib.Nat.{mod-one}
 use lib.ListN.{length, set}
@@ -14,7 +14,7 @@ use Rattle.alignment.specs.Highest.{highest-multiple}
 use Rattle.table.specs.declared.Object.{Object}
 use Rattle.table.specs.declared.Mapping.{Mapping}
 use Rattle.table.specs.Records.{attachedTo, spaceAt, extent}
-use Rattle.table.specs.Spaces.{pageFor, pageFor-power, alignment, reservedFor, reservedOf, any-reservedOf}
+use Rattle.table.specs.Spaces.{pageFor, pageFor-power, alignment, reservedFor, any-reservedOf}
 use Rattle.table.specs.Facts.{UsedOk}
 
 -- a range is aligned in its space exactly if it is aligned to the page of each object

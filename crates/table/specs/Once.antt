@@ -1,5 +1,5 @@
 -- Two ways to say that elements do not clash: no two do, or nothing is had by more than one of them.
-use Prim.Native.Nat.{ℕ, zero, _+_, _≤_, _<_, zero-le}
+use Prim.Native.Nat.{ℕ, _+_, _≤_, _<_, zero-le}
 use mathlib.Core.Path.{_≡_, refl, _∙_}
 use mathlib.Core.Bool.{Bool, true, false, not}
 use mathlib.Core.List.{List, [], _∷_}
@@ -8,7 +8,7 @@ use lib.ListN.{length, getD}
 use Rattle.lists.specs.Tests.{by-test, contrary, onlyIf, onlyIf-split, or-not-left, or-not-right, or-neither}
 use Rattle.lists.specs.Search.{any, any-none, any-at, any-place}
 use Rattle.lists.specs.Pairs.{clashes}
-use Rattle.lists.specs.Sums.{sumOf, countOf, sumOf-cons, sumOf-nil}
+use Rattle.lists.specs.Sums.{countOf, sumOf-cons, sumOf-nil}
 
 module _ {A : Type 0} where
   pub countOf-cons : (p : A → Bool) (x : A) (xs : List A) → countOf p (x ∷ xs) ≡ onlyIf (p x) 1 + countOf p xs

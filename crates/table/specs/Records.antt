@@ -1,12 +1,14 @@
 -- The records of the table (document 01, "Table"): 32 objects with the ids 1 to 32, and 128 mappings shared by all spaces.
 use Prim.Native.Nat.{ℕ, zero, suc}
+use mathlib.Core.Path.{_≡_, refl}
 use mathlib.Core.Bool.{Bool, true, false, not, _&&_}
 use mathlib.Core.List.{List, []}
 use lib.Dec.{eqb}
 use lib.ListN.{getD, replicate}
-use Rattle.lists.specs.Search.{any}
+use borrow.Author.Tests.{ne-eqb}
+use Rattle.lists.specs.Tests.{contrary}
 use Rattle.ranges.specs.declared.Range.{Range}
-use Rattle.ranges.specs.Ranges.{span, share}
+use Rattle.ranges.specs.Ranges.{span, share, inside}
 use Rattle.rangelists.specs.declared.Reserved.{Reserved}
 use Rattle.rangelists.specs.declared.Allowed.{Allowed}
 use Rattle.command.specs.Flags.{bit}
@@ -89,6 +91,20 @@ homeOf Space = 0
 homeOf (Device Loose) = 0
 homeOf (Device (Attached s)) = s
 
+-- a device at home elsewhere is not attached here
+pub other-home : (k : Kind) (s : ℕ) → (homeOf k ≡ s → ⊥) → attachedTo s k ≡ false
+other-home Free s h = refl
+other-home Space s h = refl
+other-home (Device Loose) s h = refl
+other-home (Device (Attached a)) s h = ne-eqb a s h
+
+-- what is not attached at all is not attached to s
+pub loose-home : (k : Kind) (s : ℕ) → isAttached k ≡ false → attachedTo s k ≡ false
+loose-home Free s e = refl
+loose-home Space s e = refl
+loose-home (Device Loose) s e = refl
+loose-home (Device (Attached a)) s e = contrary true refl e
+
 -- ---- mappings
 
 abbrev pub zeroMapping : Mapping
@@ -107,6 +123,14 @@ extent m = span (m .address) (m .length)
 -- it is a mapping of space s and shares an address with r
 unfoldable pub touches : ℕ → Range → Mapping → Bool
 touches s r m = ofSpace s m && share r (extent m)
+
+-- it is a mapping of space s and lies wholly inside r
+unfoldable pub within : ℕ → Range → Mapping → Bool
+within s r m = ofSpace s m && inside (extent m) r
+
+-- it is a mapping of space s that shares an address with r and is not wholly inside it
+unfoldable pub cutBy : ℕ → Range → Mapping → Bool
+cutBy s r m = touches s r m && not (inside (extent m) r)
 
 unfoldable pub canWrite : Mapping → Bool
 canWrite m = bit 0 (m .rights)

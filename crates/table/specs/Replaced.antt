@@ -9,7 +9,7 @@ use lib.ListN.{length, getD, set, List·getD-eq-default}
 use lib.Seq.{getD-set-same, getD-set-other}
 use borrow.Author.Tests.{leb-true, leb-false, eqb-true, eqb-false, eq-eqb, not-true}
 use Rattle.lists.specs.Tests.{by-test, contrary, and-left, and-right}
-use Rattle.lists.specs.Search.{any, all, all-at, any-place}
+use Rattle.lists.specs.Search.{any, all-at, any-place}
 use Rattle.lists.specs.Each.{Each, Each-imp, Each-set, Each-at, Each-zip, Each-all, all-Each, Each-any-false}
 use Rattle.rangelists.specs.Listed.{reserved, allowed}
 use Rattle.table.specs.declared.Attachment.the-variants.{Loose, Attached}
@@ -17,7 +17,6 @@ use Rattle.table.specs.declared.Kind.{Kind}
 use Rattle.table.specs.declared.Kind.the-variants.{Free, Space, Device}
 use Rattle.table.specs.declared.Object.{Object}
 use Rattle.table.specs.Records.{zeroObject, freeObject, isSpace, objectAt, spaceAt, attachedTo}
-use Rattle.table.specs.Spaces.{alignment}
 use Rattle.table.specs.Good.{kindNames, deviceNames, deviceBy, deviceValid, listBy, listValid, listsTouch, listClearBy, listClear, zeroBy, objectZero}
 use Rattle.table.specs.Checked.{objectOk, objectsOk}
 

@@ -8,7 +8,7 @@ use lib.Dec.{leb, eqb}
 use lib.ListN as ListN
 use borrow.Author.Tests.{leb-true, le-leb, eqb-true, eq-eqb, not-true, not-false}
 use Rattle.lists.specs.Tests.{by-test, and-left, and-right, and-both, or-not-left, or-not-right}
-use Rattle.lists.specs.Search.{any, all}
+use Rattle.lists.specs.Search.{any}
 use Rattle.lists.specs.Each.{Each, Each-imp, Each-zip, Each-all, all-Each, Each-any-false, any-Each-false}
 use Rattle.lists.specs.Pairs.{clashes}
 use Rattle.lists.specs.Sums.{countOf}
@@ -91,7 +91,7 @@ once-apart ms f = ap (λ (b : Bool). not b) (once-clashes (λ (k : Place). cover
 
 -- ---- backings
 
-abbrev backingOf : Mapping → Backing
+abbrev pub backingOf : Mapping → Backing
 backingOf m = record { memory = m .memory; length = m .length; founder = m .founder }
 
 -- the first mapping of each backing

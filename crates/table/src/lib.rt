@@ -1,7 +1,7 @@
 // The records of the table. What a good table is, and what the calls ask of one, stands in specs/.
 ghost use mathlib.Core.Path.{_≡_};
 ghost use Rattle.rangelists.specs.Listed.{reserved, allowed};
-ghost use Rattle.table.specs.Records.{isFree, isSpace, isDevice, isAttached, attachedTo, homeOf, canWrite, canRead};
+ghost use Rattle.table.specs.Records.{isFree, isSpace, isDevice, isAttached, attachedTo, homeOf, touches, within, canWrite, canRead};
 ghost use Rattle.table.specs.Good.{listsTouch};
 use rangelists::Allowed;
 use rangelists::Reserved;
@@ -113,6 +113,22 @@ pub fn home_of(k: Kind) -> u32
             Attachment::Attached(h) => h,
         },
     }
+}
+
+// Whether it is a mapping of space s and shares an address with r.
+pub fn is_touched(m: Mapping, s: u32, r: Range) -> bool
+    ensures { λ b. ⌜ b ≡ touches s r m ⌝ }
+{
+    let q = ranges::span_of(m.address, m.length);
+    command::both(m.space == s, ranges::shares(r, q))
+}
+
+// Whether it is a mapping of space s and lies wholly inside r.
+pub fn is_within(m: Mapping, s: u32, r: Range) -> bool
+    ensures { λ b. ⌜ b ≡ within s r m ⌝ }
+{
+    let q = ranges::span_of(m.address, m.length);
+    command::both(m.space == s, ranges::is_inside(q, r))
 }
 
 pub fn can_write(m: Mapping) -> bool

@@ -2,7 +2,6 @@
 use mathlib.Core.Path.{ap}
 use Rattle.table.specs.declared.Object.{Object}
 use Rattle.edits.specs.declared.Change.the-variants.{Nothing}
-use Rattle.edits.specs.declared.Edit.{Edit}
 use borrow.Author.Needs.{needs}
 use Rattle.edits.proofs.refusal.Statement.{statement}
 use Rattle.edits.proofs.refusal.Tie as tie

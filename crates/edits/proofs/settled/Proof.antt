@@ -1,5 +1,5 @@
 -- The signed result beside the table after the edit.
-use mathlib.Core.Path.{refl, _∙_}
+use mathlib.Core.Path.{_∙_}
 use Rattle.edits.specs.Answers.{outcome}
 use Rattle.edits.proofs.Storing.{answer-is}
 use borrow.Author.Needs.{needs}

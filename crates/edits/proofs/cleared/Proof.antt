@@ -1,21 +1,21 @@
 -- After k turns the first k records are done.
 use native.Mathlib.Omega.{arith}
-use borrow.Author.Needs.{needs}
 use Prim.Native.Nat.{_-_, _≤_}
-use mathlib.Core.Path.{_≡_, refl, _∙_}
-use mathlib.Core.List.{map}
+use mathlib.Core.Path.{_≡_, _∙_}
 use lib.ListN.{length, length-set}
 use Rattle.lists.specs.Update.{mapFirst, mapFirst-zero, mapFirst-on, mapFirst-end, length-mapped}
-use Rattle.table.specs.Records.{ofSpace, zeroMapping}
+use Rattle.table.specs.Records.{within}
 use Rattle.table.specs.Cleared.{release}
-use Rattle.edits.proofs.without_space.Statement.{statement}
-use Rattle.edits.proofs.without_space.Tie as tie
+use Rattle.edits.proofs.Storing.{release-by}
+use borrow.Author.Needs.{needs}
+use Rattle.edits.proofs.cleared.Statement.{statement}
+use Rattle.edits.proofs.cleared.Tie as tie
 
 abbrev Inv-loop : tie.InvT-loop
-Inv-loop space ms next₀ k₀ next k = (k ≤ 128) × (length ms ≡ 128) × (length next ≡ 128) × (next ≡ mapFirst (release (ofSpace space)) k ms)
+Inv-loop s r ms next₀ k₀ next k = (k ≤ 128) × (length ms ≡ 128) × (length next ≡ 128) × (next ≡ mapFirst (release (within s r)) k ms)
 
 abbrev μ-loop : tie.MeasureT-loop
-μ-loop space ms next₀ k₀ next k = 128 - k
+μ-loop s r ms next₀ k₀ next k = 128 - k
 
 loop-holds : tie.Need-loop-holds Inv-loop μ-loop
 loop-holds c = (omega arith, search (needs, length-mapped), search (needs, length-mapped), mapFirst-zero _ _)
@@ -26,6 +26,9 @@ mul-m c = search needs
 array-copy-out-m : tie.Need-array-copy-out-m Inv-loop μ-loop
 array-copy-out-m c = search (needs, length-mapped)
 
+is-within-requires : tie.Need-is-within-requires Inv-loop μ-loop
+is-within-requires c κs = search needs
+
 released-requires : tie.Need-released-requires Inv-loop μ-loop
 released-requires c κs = search needs
 
@@ -33,7 +36,7 @@ mul-next : tie.Need-mul-next Inv-loop μ-loop
 mul-next c = search needs
 
 array-set-from-next : tie.Need-array-set-from-next Inv-loop μ-loop
-array-set-from-next c = omega arith
+array-set-from-next c = search needs
 
 add-k : tie.Need-add-k Inv-loop μ-loop
 add-k c = search needs
@@ -42,13 +45,13 @@ loop-less : tie.Need-loop-less Inv-loop μ-loop
 loop-less c = search needs
 
 loop-again : tie.Need-loop-again Inv-loop μ-loop
-loop-again c = let l = c .before .before .before .loop in (omega arith, l .inv .1, simp length-set (l .inv .2), mapFirst-on _ _ _ _ _ (l .k) (l .inv .3) (omega arith) (c .released .ensures))
+loop-again c = let l = c .before .before .before .before .loop in (omega arith, l .inv .1, simp length-set (l .inv .2), mapFirst-on _ _ _ _ _ (l .k) (l .inv .3) (omega arith) (release-by _ _ _ _ (c .before .is-within .ensures) (c .released .ensures)))
 
 returns : tie.Need-returns Inv-loop μ-loop
 returns c = let l = c .before .loop in l .inv .3 ∙ mapFirst-end _ _ (l .k) (omega arith)
 
-pub without-space-spec : {M : Type 1} → statement M
-without-space-spec =
+pub cleared-spec : {M : Type 1} → statement M
+cleared-spec =
     tie.close
     (tie.spec
     Inv-loop
@@ -56,6 +59,7 @@ without-space-spec =
     loop-holds
     mul-m
     array-copy-out-m
+    is-within-requires
     released-requires
     mul-next
     array-set-from-next
