@@ -1,0 +1,25 @@
+-- Fixed, or automatic.
+use Rattle.places.proofs.Finding.{fixed-placed, automatic-placed}
+use borrow.Author.Needs.{needs}
+use Rattle.places.proofs.place_for.Statement.{statement}
+use Rattle.places.proofs.place_for.Tie as tie
+
+is-fixed-requires : tie.Need-is-fixed-requires
+is-fixed-requires c κs = search needs
+
+fixed-errno-requires : tie.Need-fixed-errno-requires
+fixed-errno-requires c κs = search needs
+
+returns : tie.Need-returns
+returns c = fixed-placed _ _ _ _ _ _ (c .before .before .is-fixed .ensures) (c .before .if1 .taken) (c .before .before .before .pre) (c .fixed-errno .ensures)
+
+automatic-place-requires : tie.Need-automatic-place-requires
+automatic-place-requires c κs = search needs
+
+returns-2 : tie.Need-returns-2
+returns-2 c = automatic-placed _ _ _ _ _ (c .before .before .is-fixed .ensures) (c .before .if1 .left) (c .automatic-place .ensures)
+
+pub place-for-spec : {M : Type 1} → statement M
+place-for-spec =
+    tie.close
+    (tie.spec is-fixed-requires fixed-errno-requires returns automatic-place-requires returns-2)

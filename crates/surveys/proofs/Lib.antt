@@ -1,0 +1,5 @@
+pub mod Choosing
+pub mod Adding
+pub mod Sourcing
+pub mod Removing
+pub mod Surveying
