@@ -1,0 +1,70 @@
+-- The checks in their order.
+use Rattle.copying.proofs.Copying.{numbers-are}
+use borrow.Author.Needs.{needs}
+use Rattle.copying.proofs.copy_number_errno.Statement.{statement}
+use Rattle.copying.proofs.copy_number_errno.Tie as tie
+
+has-unknown-requires : tie.Need-has-unknown-requires
+has-unknown-requires c κs = search needs
+
+has-no-right-requires : tie.Need-has-no-right-requires
+has-no-right-requires c κs = search needs
+
+is-wrong-length-requires : tie.Need-is-wrong-length-requires
+is-wrong-length-requires c κs = search needs
+
+passes-max-requires : tie.Need-passes-max-requires
+passes-max-requires c κs = search needs
+
+fixed-passes-requires : tie.Need-fixed-passes-requires
+fixed-passes-requires c κs = search needs
+
+space-at-requires : tie.Need-space-at-requires
+space-at-requires c κs = search needs
+
+space-at-requires-2 : tie.Need-space-at-requires-2
+space-at-requires-2 c κs = search needs
+
+refuse-if-requires : tie.Need-refuse-if-requires
+refuse-if-requires c κs = search needs
+
+refuse-if-requires-2 : tie.Need-refuse-if-requires-2
+refuse-if-requires-2 c κs = search needs
+
+refuse-if-requires-3 : tie.Need-refuse-if-requires-3
+refuse-if-requires-3 c κs = search needs
+
+refuse-if-requires-4 : tie.Need-refuse-if-requires-4
+refuse-if-requires-4 c κs = search needs
+
+refuse-if-requires-5 : tie.Need-refuse-if-requires-5
+refuse-if-requires-5 c κs = search needs
+
+refuse-if-requires-6 : tie.Need-refuse-if-requires-6
+refuse-if-requires-6 c κs = search needs
+
+refuse-if-requires-7 : tie.Need-refuse-if-requires-7
+refuse-if-requires-7 c κs = search needs
+
+returns : tie.Need-returns
+returns c = numbers-are _ _ _ _ _ _ _ _ _ _ _ _ _ _ _ _ _ _ _ _ _ (c .before .before .before .before .before .before .before .before .before .before .before .before .before .has-unknown .ensures) (c .before .before .before .before .before .before .before .before .before .before .before .before .has-no-right .ensures) (c .before .before .before .before .before .before .before .before .before .before .before .is-wrong-length .ensures) (c .before .before .before .before .before .before .before .before .before .before .passes-max .ensures) (c .before .before .before .before .before .before .before .before .before .fixed-passes .ensures) (c .before .before .before .before .before .before .before .before .space-at .ensures) (c .before .before .before .before .before .before .before .space-at2 .ensures) (c .before .before .before .before .before .before .refuse-if .ensures) (c .before .before .before .before .before .refuse-if2 .ensures) (c .before .before .before .before .refuse-if3 .ensures) (c .before .before .before .refuse-if4 .ensures) (c .before .before .refuse-if5 .ensures) (c .before .refuse-if6 .ensures) (c .refuse-if7 .ensures)
+
+pub copy-number-errno-spec : {M : Type 1} → statement M
+copy-number-errno-spec =
+    tie.close
+    (tie.spec
+    has-unknown-requires
+    has-no-right-requires
+    is-wrong-length-requires
+    passes-max-requires
+    fixed-passes-requires
+    space-at-requires
+    space-at-requires-2
+    refuse-if-requires
+    refuse-if-requires-2
+    refuse-if-requires-3
+    refuse-if-requires-4
+    refuse-if-requires-5
+    refuse-if-requires-6
+    refuse-if-requires-7
+    returns)

@@ -1,0 +1,88 @@
+-- The numbers, the source, the place or the records refused, or the copy is made.
+use Rattle.surveys.specs.Surveyed.{records-numbered}
+use Rattle.mappings.proofs.Staging.{touched-is}
+use Rattle.copying.proofs.Copying.{by-numbers, by-source, by-place, by-records, by-copying}
+use borrow.Author.Needs.{needs}
+use Rattle.copying.proofs.decide_copy.Statement.{statement}
+use Rattle.copying.proofs.decide_copy.Tie as tie
+
+copy-number-errno-requires : tie.Need-copy-number-errno-requires
+copy-number-errno-requires c κs = search needs
+
+refusal-requires : tie.Need-refusal-requires
+refusal-requires c κs = search needs
+
+returns : tie.Need-returns
+returns c = by-numbers _ _ (c .before .before .before .args .t) _ _ _ _ (c .before .before .copy-number-errno .ensures) (c .before .if1 .taken) (c .refusal .ensures)
+
+find-mapping-requires : tie.Need-find-mapping-requires
+find-mapping-requires c κs = search needs
+
+source-errno-requires : tie.Need-source-errno-requires
+source-errno-requires c κs = search needs
+
+refusal-requires-2 : tie.Need-refusal-requires-2
+refusal-requires-2 c κs = search needs
+
+returns-2 : tie.Need-returns-2
+returns-2 c = by-source _ _ (c .before .before .before .before .before .before .args .t) _ _ _ (c .before .before .before .before .before .copy-number-errno .ensures) (c .before .before .before .before .if1 .left) _ (c .before .before .before .find-mapping .ensures) _ (c .before .before .source-errno .ensures) _ (c .before .if2 .taken) (c .refusal2 .ensures)
+
+span-of-requires : tie.Need-span-of-requires
+span-of-requires c κs = search needs
+
+survey-of-requires : tie.Need-survey-of-requires
+survey-of-requires c κs = records-numbered _ _ (c .before .before .before .before .before .before .pre)
+
+place-for-requires : tie.Need-place-for-requires
+place-for-requires c κs = touched-is _ _ _ _ _ _ (c .before .span-of .ensures) (c .survey-of .ensures)
+
+refusal-requires-3 : tie.Need-refusal-requires-3
+refusal-requires-3 c κs = search needs
+
+returns-3 : tie.Need-returns-3
+returns-3 c = by-place _ _ (c .before .before .before .before .before .before .before .before .before .before .before .args .t) _ _ _ (c .before .before .before .before .before .before .before .before .before .before .copy-number-errno .ensures) (c .before .before .before .before .before .before .before .before .before .if1 .left) _ (c .before .before .before .before .before .before .before .before .find-mapping .ensures) _ (c .before .before .before .before .before .before .before .source-errno .ensures) (c .before .before .before .before .before .before .if2 .left) _ (c .before .before .before .place-for .ensures) _ (c .before .if3 .taken) (c .refusal3 .ensures)
+
+record-errno-requires : tie.Need-record-errno-requires
+record-errno-requires c κs = search needs
+
+refusal-requires-4 : tie.Need-refusal-requires-4
+refusal-requires-4 c κs = search needs
+
+returns-4 : tie.Need-returns-4
+returns-4 c = by-records _ _ (c .before .before .before .before .before .before .before .before .before .before .before .before .before .args .t) _ _ _ (c .before .before .before .before .before .before .before .before .before .before .before .before .copy-number-errno .ensures) (c .before .before .before .before .before .before .before .before .before .before .before .if1 .left) _ (c .before .before .before .before .before .before .before .before .before .before .find-mapping .ensures) _ (c .before .before .before .before .before .before .before .before .before .source-errno .ensures) (c .before .before .before .before .before .before .before .before .if2 .left) _ (c .before .before .before .before .before .place-for .ensures) (c .before .before .before .if3 .left) _ _ (c .before .before .before .before .before .before .survey-of .ensures) _ (c .before .before .record-errno .ensures) _ (c .before .if4 .taken) (c .refusal4 .ensures)
+
+source-mapping-requires : tie.Need-source-mapping-requires
+source-mapping-requires c κs = search needs
+
+copied-requires : tie.Need-copied-requires
+copied-requires c κs = search needs
+
+put-new-requires : tie.Need-put-new-requires
+put-new-requires c κs = search needs
+
+returns-5 : tie.Need-returns-5
+returns-5 c = by-copying _ _ (c .before .before .before .before .before .before .before .before .before .before .before .before .before .before .before .args .t) _ _ _ (c .before .before .before .before .before .before .before .before .before .before .before .before .before .before .copy-number-errno .ensures) (c .before .before .before .before .before .before .before .before .before .before .before .before .before .if1 .left) _ (c .before .before .before .before .before .before .before .before .before .before .before .before .find-mapping .ensures) _ (c .before .before .before .before .before .before .before .before .before .before .before .source-errno .ensures) (c .before .before .before .before .before .before .before .before .before .before .if2 .left) _ (c .before .before .before .before .before .before .before .place-for .ensures) (c .before .before .before .before .before .if3 .left) _ _ (c .before .before .before .before .before .before .before .before .survey-of .ensures) _ (c .before .before .before .before .record-errno .ensures) _ _ _ (c .before .before .before .if4 .left) (c .before .before .source-mapping .ensures) (c .before .copied .ensures) (c .put-new .ensures)
+
+pub decide-copy-spec : {M : Type 1} → statement M
+decide-copy-spec =
+    tie.close
+    (tie.spec
+    copy-number-errno-requires
+    refusal-requires
+    returns
+    find-mapping-requires
+    source-errno-requires
+    refusal-requires-2
+    returns-2
+    span-of-requires
+    survey-of-requires
+    place-for-requires
+    refusal-requires-3
+    returns-3
+    record-errno-requires
+    refusal-requires-4
+    returns-4
+    source-mapping-requires
+    copied-requires
+    put-new-requires
+    returns-5)

@@ -1,0 +1,2 @@
+-- What COPY decides over a good table.
+pub mod Copy

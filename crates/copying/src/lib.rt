@@ -1,0 +1,134 @@
+// What COPY decides over a good table: the numbers of the command, the source, then the place as in MAP, and no charge.
+ghost use mathlib.Core.Bool.{true};
+ghost use mathlib.Core.Path.{_≡_};
+ghost use Rattle.lists.specs.Each.{Each};
+ghost use Rattle.lists.specs.Checks.{first};
+ghost use Rattle.table.specs.Checked.{recordOk};
+ghost use Rattle.copying.specs.Copy.{isMissing, sourceMapping, copyNumberChecks, sourceChecks, recordChecks, copyOf, copyEdit};
+use edits::Edit;
+use places::Target;
+use rangelists::Found;
+use surveys::Source;
+use table::Mapping;
+use table::Object;
+
+fn copy_number_errno(os: [Object; 32], t: Target, source: u32, from: u64) -> u8
+    ensures { λ r. ⌜ r ≡ first (copyNumberChecks os (t .flags) (t .space) source (t .length) (t .address) from) 0 ⌝ }
+{
+    let flags = t.flags;
+    let n = t.length;
+    let unknown = command::has_unknown(flags);
+    let none = mappings::has_no_right(flags);
+    let wrong = mappings::is_wrong_length(n);
+    let past = ranges::passes_max(from, n);
+    let fixed = mappings::fixed_passes(flags, t.address, n);
+    let target = lookups::space_at(os, t.space);
+    let known = lookups::space_at(os, source);
+    command::refuse_if(
+        unknown,
+        95,
+        command::refuse_if(
+            none,
+            22,
+            command::refuse_if(
+                wrong,
+                22,
+                command::refuse_if(
+                    past,
+                    75,
+                    command::refuse_if(
+                        fixed,
+                        75,
+                        command::refuse_if(!target, 2, command::refuse_if(!known, 2, 0)),
+                    ),
+                ),
+            ),
+        ),
+    )
+}
+
+// A released record where there is no source.
+fn source_mapping(o: Source) -> Mapping
+    ensures { λ m. ⌜ m ≡ sourceMapping o ⌝ }
+{
+    match o {
+        Source::Missing => Mapping {
+            space: 0,
+            rights: 0,
+            founder: 0,
+            backing: 0,
+            address: 0,
+            length: 0,
+            memory: 0,
+        },
+        Source::Mapped(m) => m,
+    }
+}
+
+fn is_missing(o: Source) -> bool
+    ensures { λ b. ⌜ b ≡ isMissing o ⌝ }
+{
+    match o {
+        Source::Missing => true,
+        Source::Mapped(_) => false,
+    }
+}
+
+// The right to write is the founder's, whatever the source itself may do.
+fn source_errno(flags: u32, o: Source) -> u8
+    ensures { λ r. ⌜ r ≡ first (sourceChecks flags o) 0 ⌝ }
+{
+    let missing = is_missing(o);
+    let m = source_mapping(o);
+    let founder = m.founder;
+    let denied = command::both(command::is_writeable(flags), founder != 1);
+    command::refuse_if(missing, 2, command::refuse_if(denied, 1, 0))
+}
+
+fn record_errno(free: Found) -> u8
+    ensures { λ r. ⌜ r ≡ first (recordChecks free) 0 ⌝ }
+{
+    command::refuse_if(!rangelists::is_found(free), 12, 0)
+}
+
+// The mapping that a COPY of m makes, at an address.
+fn copied(m: Mapping, t: Target, address: u64) -> Mapping
+    ensures { λ r. ⌜ r ≡ copyOf m (t .flags) (t .space) (t .length) address ⌝ }
+{
+    Mapping {
+        space: t.space,
+        rights: mappings::rights_of(t.flags),
+        founder: m.founder,
+        backing: m.backing,
+        address,
+        length: t.length,
+        memory: m.memory,
+    }
+}
+
+pub fn decide_copy(os: [Object; 32], ms: [Mapping; 128], t: Target, source: u32, from: u64) -> Edit
+    requires { ⌜ Each (λ m. recordOk os m ≡ true) ms ⌝ }
+    ensures { λ e. ⌜ e ≡ copyEdit os ms (t .flags) (t .space) source (t .length) (t .address) from ⌝ }
+{
+    let wrong = copy_number_errno(os, t, source, from);
+    if wrong != 0 {
+        return edits::refusal(wrong);
+    }
+    let o = surveys::find_mapping(ms, source, from, t.length);
+    let denied = source_errno(t.flags, o);
+    if denied != 0 {
+        return edits::refusal(denied);
+    }
+    let v = surveys::survey_of(ms, t.space, ranges::span_of(t.address, t.length));
+    let p = places::place_for(os, ms, t, v.touched);
+    if p.errno != 0 {
+        return edits::refusal(p.errno);
+    }
+    let free = v.free;
+    let full = record_errno(free);
+    if full != 0 {
+        return edits::refusal(full);
+    }
+    let m = source_mapping(o);
+    mappings::put_new(free, copied(m, t, p.address))
+}

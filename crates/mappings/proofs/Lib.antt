@@ -1,0 +1,3 @@
+pub mod Staging
+pub mod Making
+pub mod Deciding

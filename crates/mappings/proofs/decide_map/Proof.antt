@@ -1,0 +1,77 @@
+-- The numbers, the place or the room refused, or the mapping is made.
+use Rattle.surveys.specs.Surveyed.{records-numbered}
+use Rattle.mappings.proofs.Deciding.{by-numbers, by-place, by-room, by-making}
+use Rattle.mappings.proofs.Staging.{touched-is}
+use Rattle.mappings.proofs.Making.{backing-fits}
+use borrow.Author.Needs.{needs}
+use Rattle.mappings.proofs.decide_map.Statement.{statement}
+use Rattle.mappings.proofs.decide_map.Tie as tie
+
+map-number-errno-requires : tie.Need-map-number-errno-requires
+map-number-errno-requires c κs = search needs
+
+refusal-requires : tie.Need-refusal-requires
+refusal-requires c κs = search needs
+
+returns : tie.Need-returns
+returns c = by-numbers _ _ _ (c .before .before .before .args .t) _ _ _ _ (c .before .before .map-number-errno .ensures) (c .before .if1 .taken) (c .refusal .ensures)
+
+span-of-requires : tie.Need-span-of-requires
+span-of-requires c κs = search needs
+
+survey-of-requires : tie.Need-survey-of-requires
+survey-of-requires c κs = records-numbered _ _ (c .before .before .before .pre)
+
+place-for-requires : tie.Need-place-for-requires
+place-for-requires c κs = touched-is _ _ _ _ _ _ (c .before .span-of .ensures) (c .survey-of .ensures)
+
+refusal-requires-2 : tie.Need-refusal-requires-2
+refusal-requires-2 c κs = search needs
+
+returns-2 : tie.Need-returns-2
+returns-2 c = by-place _ _ _ (c .before .before .before .before .before .before .before .before .args .t) _ _ _ (c .before .before .before .before .before .before .before .map-number-errno .ensures) (c .before .before .before .before .before .before .if1 .left) _ (c .before .before .before .place-for .ensures) _ (c .before .if2 .taken) (c .refusal2 .ensures)
+
+pages-touched-requires : tie.Need-pages-touched-requires
+pages-touched-requires c κs = search needs
+
+room-errno-requires : tie.Need-room-errno-requires
+room-errno-requires c κs = search needs
+
+refusal-requires-3 : tie.Need-refusal-requires-3
+refusal-requires-3 c κs = search needs
+
+returns-3 : tie.Need-returns-3
+returns-3 c = by-room _ _ _ (c .before .before .before .before .before .before .before .before .before .before .before .args .t) _ _ _ (c .before .before .before .before .before .before .before .before .before .before .map-number-errno .ensures) (c .before .before .before .before .before .before .before .before .before .if1 .left) _ (c .before .before .before .before .before .before .place-for .ensures) (c .before .before .before .before .if2 .left) _ _ (c .before .before .before .before .before .before .before .survey-of .ensures) _ _ (c .before .before .before .pages-touched .ensures .0) (c .before .before .room-errno .ensures) _ (c .before .if3 .taken) (c .refusal3 .ensures)
+
+number-in-requires : tie.Need-number-in-requires
+number-in-requires c κs = backing-fits _ _ _ _ (c .before .before .before .before .before .before .survey-of .ensures)
+
+founded-requires : tie.Need-founded-requires
+founded-requires c κs = search needs
+
+put-new-requires : tie.Need-put-new-requires
+put-new-requires c κs = search needs
+
+returns-4 : tie.Need-returns-4
+returns-4 c = by-making _ _ _ (c .before .before .before .before .before .before .before .before .before .before .before .before .before .args .t) _ _ _ (c .before .before .before .before .before .before .before .before .before .before .before .before .map-number-errno .ensures) (c .before .before .before .before .before .before .before .before .before .before .before .if1 .left) _ (c .before .before .before .before .before .before .before .before .place-for .ensures) (c .before .before .before .before .before .before .if2 .left) _ _ (c .before .before .before .before .before .before .before .before .before .survey-of .ensures) _ _ (c .before .before .before .before .before .pages-touched .ensures .0) (c .before .before .before .before .room-errno .ensures) _ _ _ (c .before .before .before .if3 .left) (c .before .before .number-in .ensures) (c .before .founded .ensures) (c .put-new .ensures)
+
+pub decide-map-spec : {M : Type 1} → statement M
+decide-map-spec =
+    tie.close
+    (tie.spec
+    map-number-errno-requires
+    refusal-requires
+    returns
+    span-of-requires
+    survey-of-requires
+    place-for-requires
+    refusal-requires-2
+    returns-2
+    pages-touched-requires
+    room-errno-requires
+    refusal-requires-3
+    returns-3
+    number-in-requires
+    founded-requires
+    put-new-requires
+    returns-4)

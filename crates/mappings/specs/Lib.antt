@@ -1,0 +1,3 @@
+-- What MAP decides over a good table.
+pub mod Made
+pub mod Map

@@ -1,0 +1,177 @@
+// What MAP decides over a good table: the numbers of the command first, then one pass over the records, then the place. COPY shares the parts of a new mapping.
+ghost use mathlib.Core.Bool.{true};
+ghost use mathlib.Core.Path.{_≡_};
+ghost use Prim.Native.Nat.{_+_, _≤_};
+ghost use lib.Dec.{ltb};
+ghost use Rattle.lists.specs.Tests.{onlyIf};
+ghost use Rattle.lists.specs.Each.{Each};
+ghost use Rattle.lists.specs.Checks.{first};
+ghost use Rattle.table.specs.Checked.{recordOk};
+ghost use Rattle.mappings.specs.Made.{rightsOf, numberIn, mapped};
+ghost use Rattle.mappings.specs.Map.{noRight, wrongLength, fixedPasses, mapNumberChecks, roomChecks, foundOf, mapEdit};
+use edits::Change;
+use edits::Edit;
+use places::Target;
+use rangelists::Found;
+use table::Mapping;
+use table::Object;
+
+// ---- the parts of a new mapping
+
+fn one_if(b: bool, n: u32) -> u32
+    ensures { λ r. ⌜ (r ≡ onlyIf b n) × (r ≤ n) ⌝ }
+{
+    if b { n } else { 0 }
+}
+
+// Bit 0 write, bit 1 read.
+pub fn rights_of(flags: u32) -> u32
+    ensures { λ r. ⌜ r ≡ rightsOf flags ⌝ }
+{
+    one_if(command::is_writeable(flags), 1) + one_if(command::is_readable(flags), 2)
+}
+
+// The number that was found, 0 where none was.
+fn number_in(f: Found) -> u32
+    requires { ⌜ numberIn f ≤ 128 ⌝ }
+    ensures { λ n. ⌜ n ≡ numberIn f ⌝ }
+{
+    match f {
+        Found::Nothing => 0,
+        Found::At(n) => n as u32,
+    }
+}
+
+// A mapping in the lowest free record, with its address as the reply.
+pub fn put_new(free: Found, m: Mapping) -> Edit
+    ensures { λ e. ⌜ e ≡ mapped free m ⌝ }
+{
+    let Found::At(i) = free else {
+        return edits::refusal(12);
+    };
+    let object = edits::free_object();
+    edits::acceptance(m.address, Change::Map(i, m), object)
+}
+
+// ---- checks that MAP and COPY share
+
+pub fn has_no_right(flags: u32) -> bool
+    ensures { λ b. ⌜ b ≡ noRight flags ⌝ }
+{
+    !command::either(command::is_writeable(flags), command::is_readable(flags))
+}
+
+pub fn is_wrong_length(n: u64) -> bool
+    ensures { λ b. ⌜ b ≡ wrongLength n ⌝ }
+{
+    command::either(n == 0, 0x100_0000_0000 < n)
+}
+
+pub fn fixed_passes(flags: u32, x: u64, n: u64) -> bool
+    ensures { λ b. ⌜ b ≡ fixedPasses flags x n ⌝ }
+{
+    command::both(command::is_fixed(flags), ranges::passes_max(x, n))
+}
+
+// ---- MAP
+
+fn map_number_errno(os: [Object; 32], t: Target, zero: u32, memory: u64) -> u8
+    ensures { λ r. ⌜ r ≡ first (mapNumberChecks os (t .flags) (t .space) zero memory (t .length) (t .address)) 0 ⌝ }
+{
+    let flags = t.flags;
+    let n = t.length;
+    let unknown = command::either(command::has_unknown(flags), zero != 0);
+    let none = has_no_right(flags);
+    let wrong = is_wrong_length(n);
+    let past = ranges::passes_max(memory, n);
+    let fixed = fixed_passes(flags, t.address, n);
+    let known = lookups::space_at(os, t.space);
+    command::refuse_if(
+        unknown,
+        95,
+        command::refuse_if(
+            none,
+            22,
+            command::refuse_if(
+                wrong,
+                22,
+                command::refuse_if(
+                    past,
+                    75,
+                    command::refuse_if(fixed, 75, command::refuse_if(!known, 2, 0)),
+                ),
+            ),
+        ),
+    )
+}
+
+// Whether so many pages more would pass the limit. No sum is made.
+fn over_limit(limit: u64, charge: u64, pages: u64) -> bool
+    ensures { λ b. ⌜ b ≡ ltb limit (charge + pages) ⌝ }
+{
+    if limit < charge {
+        return true;
+    }
+    if limit - charge < pages {
+        return true;
+    }
+    false
+}
+
+// A free record, and the charge within the limit.
+fn room_errno(free: Found, limit: u64, charge: u64, pages: u64) -> u8
+    ensures { λ r. ⌜ r ≡ first (roomChecks free limit charge pages) 0 ⌝ }
+{
+    let some = rangelists::is_found(free);
+    let over = over_limit(limit, charge, pages);
+    command::refuse_if(!some, 12, command::refuse_if(over, 12, 0))
+}
+
+// The mapping that a MAP founds, at an address.
+fn founded(backing: u32, t: Target, memory: u64, address: u64) -> Mapping
+    ensures { λ r. ⌜ r ≡ foundOf backing (t .flags) (t .space) memory (t .length) address ⌝ }
+{
+    Mapping {
+        space: t.space,
+        rights: rights_of(t.flags),
+        founder: one_if(command::is_writeable(t.flags), 1),
+        backing,
+        address,
+        length: t.length,
+        memory,
+    }
+}
+
+pub fn decide_map(
+    limit: u64,
+    os: [Object; 32],
+    ms: [Mapping; 128],
+    t: Target,
+    zero: u32,
+    memory: u64,
+) -> Edit
+    requires { ⌜ Each (λ m. recordOk os m ≡ true) ms ⌝ }
+    ensures { λ e. ⌜ e ≡ mapEdit limit os ms (t .flags) (t .space) zero memory (t .length) (t .address) ⌝ }
+{
+    let wrong = map_number_errno(os, t, zero, memory);
+    if wrong != 0 {
+        return edits::refusal(wrong);
+    }
+    let v = surveys::survey_of(ms, t.space, ranges::span_of(t.address, t.length));
+    let p = places::place_for(os, ms, t, v.touched);
+    if p.errno != 0 {
+        return edits::refusal(p.errno);
+    }
+    let free = v.free;
+    let full = room_errno(
+        free,
+        limit,
+        v.charge,
+        ranges::pages_touched(memory, t.length),
+    );
+    if full != 0 {
+        return edits::refusal(full);
+    }
+    let number = v.backing;
+    put_new(free, founded(number_in(number), t, memory, p.address))
+}

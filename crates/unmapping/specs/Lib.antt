@@ -1,0 +1,2 @@
+-- What UNMAP decides over a good table.
+pub mod Unmap

@@ -1,0 +1,69 @@
+// What UNMAP decides over a good table. One pass tells whether a mapping is cut, whether one goes, and the bytes: nothing is removed before.
+ghost use mathlib.Core.Bool.{true};
+ghost use mathlib.Core.Path.{_≡_};
+ghost use Rattle.lists.specs.Each.{Each};
+ghost use Rattle.lists.specs.Checks.{first};
+ghost use Rattle.table.specs.Checked.{recordOk};
+ghost use Rattle.unmapping.specs.Unmap.{asksAll, rangeAsked, unmapNumberChecks, removalBy, unmapEdit};
+use edits::Change;
+use edits::Edit;
+use ranges::Range;
+use table::Mapping;
+use table::Object;
+
+fn asks_all(a: u64, n: u64) -> bool
+    ensures { λ b. ⌜ b ≡ asksAll a n ⌝ }
+{
+    command::both(a == 0, n == ranges::U64MAX)
+}
+
+// Every address in the remove-all form: the last one too.
+fn range_asked(a: u64, n: u64) -> Range
+    ensures { λ r. ⌜ r ≡ rangeAsked a n ⌝ }
+{
+    if asks_all(a, n) {
+        return Range {
+            start: 0,
+            last: ranges::U64MAX,
+        };
+    }
+    ranges::span_of(a, n)
+}
+
+fn unmap_number_errno(os: [Object; 32], s: u32, a: u64, n: u64) -> u8
+    ensures { λ r. ⌜ r ≡ first (unmapNumberChecks os s a n) 0 ⌝ }
+{
+    let past = ranges::passes_max(a, n);
+    let known = lookups::space_at(os, s);
+    command::refuse_if(
+        n == 0,
+        22,
+        command::refuse_if(past, 75, command::refuse_if(!known, 2, 0)),
+    )
+}
+
+// Whether a mapping is cut, then whether some mapping goes.
+fn removal_errno(all: bool, cut: bool, some: bool) -> u8
+    ensures { λ r. ⌜ r ≡ first (removalBy all cut some) 0 ⌝ }
+{
+    let none = command::both(!all, !some);
+    command::refuse_if(cut, 2, command::refuse_if(none, 2, 0))
+}
+
+pub fn decide_unmap(os: [Object; 32], ms: [Mapping; 128], s: u32, a: u64, n: u64) -> Edit
+    requires { ⌜ Each (λ m. recordOk os m ≡ true) ms ⌝ }
+    ensures { λ e. ⌜ e ≡ unmapEdit os ms s a n ⌝ }
+{
+    let wrong = unmap_number_errno(os, s, a, n);
+    if wrong != 0 {
+        return edits::refusal(wrong);
+    }
+    let r = range_asked(a, n);
+    let v = surveys::removal_of(ms, s, r);
+    let kept = removal_errno(asks_all(a, n), v.cut, v.some);
+    if kept != 0 {
+        return edits::refusal(kept);
+    }
+    let object = edits::free_object();
+    edits::acceptance(v.bytes, Change::Clear(s, r), object)
+}
