@@ -1,7 +1,7 @@
 -- The calls that change the table or the bytes: where the result is below zero, both are as they were.
 use Prim.Native.Nat.{ℕ, _-_}
 use mathlib.Core.Path.{_≡_, ap, _∙_}
-use mathlib.Core.Bool.{true, false}
+use mathlib.Core.Bool.{false}
 use mathlib.Core.List.{List}
 use lib.Dec.{eqb}
 use borrow.Author.Tests.{eqb-true}
@@ -15,14 +15,14 @@ use Rattle.table.specs.declared.Table.{Table}
 use Rattle.table.specs.Records.{objectAt, newSpace, freeObject}
 use Rattle.table.specs.Charge.{freeRecord}
 use Rattle.edits.specs.declared.Change.the-variants.{Put}
-use Rattle.edits.specs.Edits.{accept, placed}
+use Rattle.edits.specs.Answers.{replied}
 use Rattle.devices.specs.Bind.{newDevice, bindChecks, bindEdit}
 use Rattle.devices.specs.Attach.{attachedObject, looseObject, attachChecks, attachEdit, detachChecks, detachEdit}
 use Rattle.spaces.specs.Objects.{allocChecks, allocEdit, destroyChecks, removal, destroyEdit}
 use Rattle.spaces.specs.Allow.{areaList, withAllow, allowChecks, allowEdit}
 use Rattle.spaces.specs.Ranges.{repliesTo}
-use Rattle.spacecalls.specs.Gate.{gateErrno}
-use Rattle.spacecalls.specs.Calls.{allocCall, allocAnswer, idWritten, allocBytes, destroyAnswer, allowAnswer, rangesCall, rangesResult, rangesReply, rangesWritten}
+use Rattle.tablecheck.specs.Gate.{gateErrno}
+use Rattle.spacecalls.specs.Calls.{allocCall, allocAnswer, allocBytes, destroyAnswer, allowAnswer, rangesCall, rangesResult, rangesReply, rangesWritten}
 use Rattle.hostcalls.specs.Calls.{tableErrno, bindCall, attachCall, detachCall}
 use Rattle.refusals.specs.Edits.{Silent, silent-accept, silent-settle, silent-placed, outcome-refused, outcomeId-refused, errno-of}
 
@@ -32,7 +32,7 @@ module _ (t : Table) (bytes : List ℕ) where
   alloc-silent = silent-settle (gateErrno t 0x3B81 bytes) _ (silent-settle (first (allocChecks (field 4 bytes 4)) 0) _ (silent-placed (freeRecord (t .objects)) newSpace))
 
   pub alloc-refused : (k : ℕ) → allocAnswer t bytes .result ≡ negsuc k → (allocAnswer t bytes .table ≡ t) × (allocBytes t bytes ≡ bytes)
-  unfolding allocAnswer allocBytes idWritten
+  unfolding allocAnswer allocBytes replied
   alloc-refused k r = (outcome-refused t (allocCall t bytes) alloc-silent k r, by-test (eqb (allocCall t bytes .errno) 0) (λ e. absurd (errno-of t (allocCall t bytes) k r (eqb-true (allocCall t bytes .errno) 0 e))) (λ e. rw e))
 
   pub destroy-refused : (k : ℕ) → destroyAnswer t bytes .result ≡ negsuc k → destroyAnswer t bytes .table ≡ t

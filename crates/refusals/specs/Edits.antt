@@ -1,10 +1,10 @@
 -- An edit with an errno changes nothing, and so does the call that answers with it.
 use Prim.Native.Nat.{ℕ, zero, suc}
-use mathlib.Core.Path.{_≡_, refl, sym, ap, _∙_}
+use mathlib.Core.Path.{_≡_, refl}
 use mathlib.Core.Option.{Option, none, some}
 use native.Mathlib.Omega.{arith}
-use lib.IntN.{ℤ, pos, negsuc}
-use Rattle.command.specs.Results.{result, result-zero}
+use lib.IntN.{negsuc}
+use Rattle.command.specs.Results.{result, result-errno}
 use Rattle.table.specs.declared.Object.{Object}
 use Rattle.table.specs.declared.Table.{Table}
 use Rattle.edits.specs.declared.Change.{Change}
@@ -29,17 +29,11 @@ silent-placed (some i) o = λ h. absurd (h refl)
 
 -- ---- a result below zero is an errno
 
-below : ℤ → ℕ
-below (pos n) = 0
-below (negsuc n) = 1
-
 negative : (n k : ℕ) → result n ≡ negsuc k → n ≡ 0 → ⊥
-unfolding below
-negative n k e z = omega (arith, sym (ap below (sym result-zero ∙ (ap result (sym z) ∙ e))))
+negative n k e z = omega (arith, z, result-errno n k e)
 
 negative-id : (n id k : ℕ) → idOr n id ≡ negsuc k → n ≡ 0 → ⊥
-unfolding below
-negative-id zero id k e z = omega (arith, ap below e)
+negative-id zero id k e z = let y : _≡_ {A = ℕ} 0 1 = cc in omega (arith, y)
 negative-id (suc n) id k e z = omega (arith, z)
 
 module _ (t : Table) (e : Edit) (s : Silent e) where

@@ -4,20 +4,19 @@ use mathlib.Core.Path.{_≡_, refl, sym, ap, _∙_}
 use mathlib.Core.Bool.{Bool, true, false, cond}
 use mathlib.Core.List.{List, [], _∷_}
 use native.Mathlib.Omega.{arith}
-use lib.Dec.{ltb, eqb}
+use lib.Dec.{ltb}
 use lib.IntN.{ℤ}
 use lib.ListN.{length, take}
 use borrow.Author.Tests.{ltb-false, ne-eqb}
 use Rattle.lists.specs.Tests.{by-test}
-use Rattle.lists.specs.Checks.{Check, when, first, first-each, Refusals, passed}
-use Rattle.ranges.specs.declared.Range.{Range}
+use Rattle.lists.specs.Checks.{when, first, first-each, first-stays, first-goes, Refusals, passed}
 use Rattle.wire.specs.Fields.{field, put}
 use Rattle.command.specs.declared.Opening.{Opening}
 use Rattle.command.specs.declared.Opening.the-variants.{UnknownRequest, NoSizeField, SizeTooSmall, SizePastBytes, TailNotZero, Open}
 use Rattle.command.specs.Opening.{opened, openingErrno}
 use Rattle.command.specs.Results.{result}
 use Rattle.blocks.specs.declared.Blocks.{Blocks}
-use Rattle.blocks.specs.Blocked.{blocked, blockedFor, blockedFor-length}
+use Rattle.blocks.specs.Blocked.{blocked, blockedFor-length}
 use Rattle.freeranges.specs.Free.{freeRanges}
 use Rattle.freeranges.specs.Fewest.{free-length}
 use Rattle.freeranges.specs.Written.{putRanges}
@@ -27,8 +26,7 @@ use Rattle.table.specs.Good.{good}
 use Rattle.table.specs.Spaces.{alignment}
 use Rattle.facts.specs.Gathered.{Gathered}
 use Rattle.spaces.specs.Ranges.{freeOf, rangesChecks, rangesErrno, repliesTo, rangesBytes, rangesArea}
-use Rattle.spaces.proofs.Listing.{first-stays, first-goes}
-use Rattle.spacecalls.specs.Gate.{gateErrno}
+use Rattle.tablecheck.specs.Gate.{gateErrno}
 use Rattle.spacecalls.specs.Calls.{RangesReply, RangesDone, errnoOr, rangesCall, rangesResult, rangesReply, rangesWritten}
 
 -- ---- the reply
@@ -76,7 +74,7 @@ module _ (os : List Object) (cmd area : List ℕ) where
       let f : n ≡ first (rangesChecks os (field 4 cmd 4) (field 4 cmd 8) (field 4 cmd 12) (length area)) 0 = e ∙ rw (es, ec, ez) in
       let silent : repliesTo n ≡ false = rw (ne-eqb n 0 h) (ne-eqb n 90 (λ y. not-90 (sym f ∙ y))) in
       record {
-        errno = first-stays (rangesChecks os (field 4 cmd 4) (field 4 cmd 8) (field 4 cmd 12) (length area)) n _ f h;
+        errno = first-stays (rangesChecks os (field 4 cmd 4) (field 4 cmd 8) (field 4 cmd 12) (length area)) 0 n _ f h;
         bytes = sym (rw silent);
         ranges = sym (rw silent);
       }
@@ -99,7 +97,7 @@ module _ (os : List Object) (cmd area : List ℕ) where
       let d : n ≡ cond (ltb (field 4 cmd 8) (length (freeOf os (field 4 cmd 4)))) 90 0 = e ∙ single-check (ltb count full) ∙ rw (ec, r .full, es) in
       let writes : repliesTo n ≡ true = rw d (replies (ltb (field 4 cmd 8) (length (freeOf os (field 4 cmd 4))))) in
       record {
-        errno = d ∙ first-goes (rangesChecks os (field 4 cmd 4) (field 4 cmd 8) (field 4 cmd 12) (length area)) _ checks-refuse f;
+        errno = d ∙ first-goes (rangesChecks os (field 4 cmd 4) (field 4 cmd 8) (field 4 cmd 12) (length area)) 0 _ checks-refuse f;
         bytes = r .bytes ∙ rw (es, writes);
         ranges = r .ranges ∙ rw (es, ec, writes);
       }

@@ -4,21 +4,20 @@ use Prim.Native.Nat.{ℕ, zero, suc}
 use mathlib.Core.Path.{_≡_}
 use mathlib.Core.Bool.{cond}
 use mathlib.Core.List.{List}
-use lib.Dec.{eqb}
 use lib.IntN.{ℤ}
 use lib.ListN.{length}
 use Rattle.command.specs.Results.{result}
-use Rattle.wire.specs.Fields.{field, put}
+use Rattle.wire.specs.Fields.{field}
 use Rattle.table.specs.declared.Object.{Object}
 use Rattle.table.specs.declared.Table.{Table}
 use Rattle.edits.specs.declared.Edit.{Edit}
 use Rattle.edits.specs.declared.Answer.{Answer}
 use Rattle.edits.specs.Edits.{settle}
-use Rattle.edits.specs.Answers.{outcome}
+use Rattle.edits.specs.Answers.{outcome, replied}
 use Rattle.spaces.specs.Objects.{allocEdit, destroyEdit}
 use Rattle.spaces.specs.Allow.{allowEdit}
 use Rattle.spaces.specs.Ranges.{freeOf, rangesErrno, repliesTo, rangesBytes, rangesArea}
-use Rattle.spacecalls.specs.Gate.{gateErrno}
+use Rattle.tablecheck.specs.Gate.{gateErrno}
 
 -- IOAS_ALLOC: size, flags, out id
 unfoldable pub allocCall : Table → List ℕ → Edit
@@ -27,12 +26,9 @@ allocCall t bytes = settle (gateErrno t 0x3B81 bytes) (allocEdit (t .objects) (f
 unfoldable pub allocAnswer : Table → List ℕ → Answer
 allocAnswer t bytes = outcome t (allocCall t bytes)
 
--- the id is written at offset 8, where the call succeeds
-unfoldable pub idWritten : ℕ → ℕ → List ℕ → List ℕ
-idWritten errno id bytes = cond (eqb errno 0) (put 4 bytes 8 id) bytes
-
+-- the id is written at offset 8
 unfoldable pub allocBytes : Table → List ℕ → List ℕ
-allocBytes t bytes = idWritten (allocCall t bytes .errno) (allocCall t bytes .value) bytes
+allocBytes t bytes = replied 4 8 (allocCall t bytes .errno) (allocCall t bytes .value) bytes
 
 -- DESTROY: size, id
 unfoldable pub destroyAnswer : Table → List ℕ → Answer

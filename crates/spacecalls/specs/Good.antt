@@ -1,6 +1,6 @@
 -- No command on spaces makes a bad table out of a good one, and a command on one space leaves the others as they were. IOVA_RANGES gives back no table.
 use Prim.Native.Nat.{ℕ}
-use mathlib.Core.Path.{_≡_, ap}
+use mathlib.Core.Path.{_≡_}
 use mathlib.Core.Bool.{true}
 use mathlib.Core.List.{List}
 use Rattle.wire.specs.Fields.{field}
@@ -16,7 +16,7 @@ use Rattle.spaces.specs.Objects.{allocEdit, destroyEdit}
 use Rattle.spaces.specs.Allow.{allowEdit}
 use Rattle.spaces.specs.Kept.{alloc-sound, destroy-sound, allow-sound}
 use Rattle.spaces.specs.Apart.{alloc-untouched, destroy-untouched, allow-untouched}
-use Rattle.spacecalls.specs.Gate.{gateErrno}
+use Rattle.tablecheck.specs.Gate.{gateErrno}
 use Rattle.spacecalls.specs.Calls.{allocCall, allocAnswer, destroyAnswer, allowAnswer}
 
 module _ (t : Table) (g : good t ≡ true) (bytes : List ℕ) where

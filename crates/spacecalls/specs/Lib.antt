@@ -1,4 +1,3 @@
 -- The four commands that place no mapping, whole: 117, opening, what the command decides, applied, and the bytes written back.
-pub mod Gate
 pub mod Calls
 pub mod Good

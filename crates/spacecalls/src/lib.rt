@@ -3,26 +3,16 @@
 ghost use mathlib.Core.Path.{_≡_};
 ghost use Prim.Native.Nat.{_*_, _≤_, _<_};
 ghost use lib.ListN.{length};
-ghost use Rattle.spacecalls.specs.Gate.{gateErrno};
-ghost use Rattle.spacecalls.specs.Calls.{allocAnswer, allocBytes, destroyAnswer, allowAnswer, RangesReply, RangesDone, rangesResult, rangesReply, rangesWritten, idWritten};
+ghost use Rattle.edits.specs.Answers.{replied};
+ghost use Rattle.spacecalls.specs.Calls.{allocAnswer, allocBytes, destroyAnswer, allowAnswer, RangesReply, RangesDone, rangesResult, rangesReply, rangesWritten};
 use edits::Answer;
 use table::Object;
 use table::Table;
 
-// 117 for a bad table, then the errno of the opening; 0 where the command is open.
-pub fn gate(t: Table, request: u32, cmd: &[u8]) -> u8
-    ensures { λ n. ⌜ n ≡ gateErrno t request (now (cmd .entry)) ⌝ }
-{
-    if !tablecheck::is_good(t) {
-        return 117;
-    }
-    command::opening_errno(command::open(request, cmd))
-}
-
 // The new id, where there is one.
 fn write_id(cmd: &mut [u8], errno: u8, id: u64)
     requires { ⌜ (12 ≤ length (now cmd)) × (id < 256) ⌝ }
-    ensures { λ _. ⌜ now (cmd .exit) ≡ idWritten errno id (now (cmd .entry)) ⌝ }
+    ensures { λ _. ⌜ now (cmd .exit) ≡ replied 4 8 errno id (now (cmd .entry)) ⌝ }
 {
     if errno == 0 {
         wire::write32(cmd, 8, id as u32);
@@ -33,7 +23,7 @@ fn write_id(cmd: &mut [u8], errno: u8, id: u64)
 pub fn ioas_alloc(t: Table, cmd: &mut [u8]) -> Answer
     ensures { λ a. ⌜ (a ≡ allocAnswer t (now (cmd .entry))) × (now (cmd .exit) ≡ allocBytes t (now (cmd .entry))) ⌝ }
 {
-    let errno = gate(t, 0x3B81, cmd);
+    let errno = tablecheck::gate(t, 0x3B81, cmd);
     if errno != 0 {
         return edits::refused(t, errno);
     }
@@ -47,7 +37,7 @@ pub fn ioas_alloc(t: Table, cmd: &mut [u8]) -> Answer
 pub fn destroy(t: Table, cmd: &[u8]) -> Answer
     ensures { λ a. ⌜ a ≡ destroyAnswer t (now (cmd .entry)) ⌝ }
 {
-    let errno = gate(t, 0x3B80, cmd);
+    let errno = tablecheck::gate(t, 0x3B80, cmd);
     if errno != 0 {
         return edits::refused(t, errno);
     }
@@ -60,7 +50,7 @@ pub fn destroy(t: Table, cmd: &[u8]) -> Answer
 pub fn allow_iovas(t: Table, cmd: &[u8], area: &[u8]) -> Answer
     ensures { λ a. ⌜ a ≡ allowAnswer t (now (cmd .entry)) (now (area .entry)) ⌝ }
 {
-    let errno = gate(t, 0x3B82, cmd);
+    let errno = tablecheck::gate(t, 0x3B82, cmd);
     if errno != 0 {
         return edits::refused(t, errno);
     }
@@ -105,7 +95,7 @@ fn answer_ranges(os: [Object; 32], cmd: &mut [u8], area: &mut [u8]) -> u8
 pub fn iova_ranges(t: Table, cmd: &mut [u8], area: &mut [u8]) -> i32
     ensures { λ r. ⌜ (r ≡ rangesResult t (now (cmd .entry)) (now (area .entry))) × (now (cmd .exit) ≡ rangesReply t (now (cmd .entry)) (now (area .entry))) × (now (area .exit) ≡ rangesWritten t (now (cmd .entry)) (now (area .entry))) ⌝ }
 {
-    let errno = gate(t, 0x3B84, cmd);
+    let errno = tablecheck::gate(t, 0x3B84, cmd);
     if errno != 0 {
         return command::signed_result(errno);
     }

@@ -1,7 +1,8 @@
-// Whether a table is good. It runs before every call: what mappings need of the objects is gathered once, then each record is looked at by itself,
+// What runs before every call: whether a table is good, and for a command its opening. The check of a table: what mappings need of the objects is gathered once, then each record is looked at by itself,
 // then backings and charge in one pass, then pairs.
 ghost use mathlib.Core.Path.{_≡_};
 ghost use Rattle.table.specs.Good.{good};
+ghost use Rattle.tablecheck.specs.Gate.{gateErrno};
 use records::Charged;
 use table::Table;
 
@@ -32,4 +33,14 @@ pub fn is_good(t: Table) -> bool
         return false;
     }
     !records::some_together(ms)
+}
+
+// 117 for a bad table, then the errno of the opening; 0 where the command is open.
+pub fn gate(t: Table, request: u32, cmd: &[u8]) -> u8
+    ensures { λ n. ⌜ n ≡ gateErrno t request (now (cmd .entry)) ⌝ }
+{
+    if !is_good(t) {
+        return 117;
+    }
+    command::opening_errno(command::open(request, cmd))
 }

@@ -3,7 +3,8 @@ use native.Mathlib.Omega.{arith}
 use mathlib.Core.Path.{sym, _∙_}
 use Rattle.command.specs.declared.Command.the-variants.{AllowIovas}
 use Rattle.spacecalls.specs.Calls.{allowAnswer}
-use Rattle.spacecalls.proofs.Gating.{gate-size, gate-refused, gate-passed, allow-fields}
+use Rattle.tablecheck.proofs.Gating.{gate-size, gate-refused, gate-passed}
+use Rattle.spacecalls.proofs.Gating.{allow-fields}
 use borrow.Author.Needs.{needs}
 use Rattle.spacecalls.proofs.allow_iovas.Statement.{statement}
 use Rattle.spacecalls.proofs.allow_iovas.Tie as tie

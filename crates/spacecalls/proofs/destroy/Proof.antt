@@ -4,7 +4,7 @@ use mathlib.Core.Path.{sym, ap, _∙_}
 use Rattle.command.specs.declared.Command.the-variants.{Destroy}
 use Rattle.spaces.specs.Objects.{destroyEdit}
 use Rattle.spacecalls.specs.Calls.{destroyAnswer}
-use Rattle.spacecalls.proofs.Gating.{gate-size, gate-refused, gate-passed}
+use Rattle.tablecheck.proofs.Gating.{gate-size, gate-refused, gate-passed}
 use borrow.Author.Needs.{needs}
 use Rattle.spacecalls.proofs.destroy.Statement.{statement}
 use Rattle.spacecalls.proofs.destroy.Tie as tie

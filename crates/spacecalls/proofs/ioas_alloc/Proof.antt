@@ -3,7 +3,9 @@ use native.Mathlib.Omega.{arith}
 use mathlib.Core.Path.{sym, _∙_}
 use Rattle.lists.specs.Update.{length-mapped}
 use Rattle.command.specs.declared.Command.the-variants.{IoasAlloc}
-use Rattle.spacecalls.proofs.Gating.{gate-size, alloc-value, alloc-refused, alloc-done}
+use Rattle.tablecheck.proofs.Gating.{gate-size, reply-refused, reply-done}
+use Rattle.spacecalls.proofs.Gating.{alloc-value, alloc-fields}
+use Rattle.spacecalls.specs.Calls.{allocCall, allocAnswer, allocBytes}
 use borrow.Author.Needs.{needs}
 use Rattle.spacecalls.proofs.ioas_alloc.Statement.{statement}
 use Rattle.spacecalls.proofs.ioas_alloc.Tie as tie
@@ -18,7 +20,8 @@ same-length : tie.Need-same-length
 same-length c = search needs
 
 returns : tie.Need-returns
-returns c = alloc-refused _ _ _ (c .before .before .gate .ensures) _ (c .before .if1 .taken) (c .refused .ensures)
+unfolding allocAnswer allocBytes allocCall
+returns c = reply-refused _ _ _ _ _ _ _ _ (c .before .before .gate .ensures) (c .before .if1 .taken) (c .refused .ensures)
 
 read32-requires : tie.Need-read32-requires
 read32-requires c κs = omega (arith, gate-size (c .before .before .before .before .before .before .args .t) IoasAlloc (c .before .before .before .before .before .before .args .cmd .now) (sym (c .before .before .if1 .left) ∙ c .before .before .before .gate .ensures))
@@ -36,7 +39,8 @@ same-length-2 : tie.Need-same-length-2
 same-length-2 c = search needs
 
 returns-2 : tie.Need-returns-2
-returns-2 c = alloc-done _ _ _ (c .before .before .before .before .before .before .before .before .before .before .gate .ensures) _ _ _ _ (c .before .before .before .before .before .before .before .before .before .if1 .left) (c .before .before .before .before .before .before .read32 .ensures) (c .before .before .before .before .before .decide-alloc .ensures) (c .settled .ensures) (c .before .before .before .write-id .ensures)
+unfolding allocAnswer allocBytes allocCall
+returns-2 c = reply-done _ _ _ _ _ _ _ _ (c .before .before .before .before .before .before .before .before .before .before .gate .ensures) _ _ (c .before .before .before .before .before .before .before .before .before .if1 .left) (alloc-fields _ _ _ _ (c .before .before .before .before .before .before .read32 .ensures) (c .before .before .before .before .before .decide-alloc .ensures)) (c .settled .ensures) (c .before .before .before .write-id .ensures)
 
 pub ioas-alloc-spec : {M : Type 1} → statement M
 ioas-alloc-spec =

@@ -2,7 +2,7 @@
 use native.Mathlib.Omega.{arith}
 use mathlib.Core.Path.{sym, _∙_}
 use Rattle.command.specs.declared.Command.the-variants.{IovaRanges}
-use Rattle.spacecalls.proofs.Gating.{gate-size}
+use Rattle.tablecheck.proofs.Gating.{gate-size}
 use Rattle.spacecalls.proofs.Replying.{ranges-gated, ranges-answered}
 use borrow.Author.Needs.{needs}
 use Rattle.spacecalls.proofs.iova_ranges.Statement.{statement}

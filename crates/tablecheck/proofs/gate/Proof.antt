@@ -1,10 +1,10 @@
 -- 117 before the opening.
 use mathlib.Core.Path.{sym, _∙_}
 use borrow.Author.Tests.{not-true, not-false}
-use Rattle.spacecalls.proofs.Gating.{gate-bad, gate-good}
+use Rattle.tablecheck.proofs.Gating.{gate-bad, gate-good}
 use borrow.Author.Needs.{needs}
-use Rattle.spacecalls.proofs.gate.Statement.{statement}
-use Rattle.spacecalls.proofs.gate.Tie as tie
+use Rattle.tablecheck.proofs.gate.Statement.{statement}
+use Rattle.tablecheck.proofs.gate.Tie as tie
 
 is-good-requires : tie.Need-is-good-requires
 is-good-requires c κs = search needs

@@ -1,0 +1,35 @@
+-- Past the gate: the records keep their rules, and the numbers that the code read are the fields of the command.
+use Prim.Native.Nat.{ℕ}
+use mathlib.Core.Path.{_≡_, sym, _∙_}
+use mathlib.Core.Bool.{true}
+use mathlib.Core.List.{List}
+use Rattle.lists.specs.Each.{Each}
+use Rattle.wire.specs.Fields.{field}
+use Rattle.table.specs.declared.Table.{Table}
+use Rattle.table.specs.Checked.{recordOk}
+use Rattle.table.specs.Sound.{good-sound}
+use Rattle.edits.specs.declared.Edit.{Edit}
+use Rattle.tablecheck.specs.Gate.{gateErrno}
+use Rattle.mappings.specs.Map.{mapEdit}
+use Rattle.copying.specs.Copy.{copyEdit}
+use Rattle.unmapping.specs.Unmap.{unmapEdit}
+use Rattle.mappingcalls.specs.Calls.{mapDecided, copyDecided, unmapDecided}
+use Rattle.mappingcalls.specs.Accepted.{gate-table}
+
+pub gate-records : (t : Table) (request n : ℕ) (bytes : List ℕ) → n ≡ gateErrno t request bytes → n ≡ 0 → Each (λ m. recordOk (t .objects) m ≡ true) (t .mappings)
+gate-records t request n bytes e z = good-sound t (gate-table t request bytes (sym e ∙ z)) .records
+
+module _ (t : Table) (bytes : List ℕ) (e : Edit) where
+  pub map-fields : (flags s z memory n x : ℕ) → s ≡ field 4 bytes 8 → flags ≡ field 4 bytes 4 → n ≡ field 8 bytes 24 → x ≡ field 8 bytes 32 → z ≡ field 4 bytes 12 → memory ≡ field 8 bytes 16
+      → e ≡ mapEdit (t .limit) (t .objects) (t .mappings) flags s z memory n x → e ≡ mapDecided t bytes
+  unfolding mapDecided
+  map-fields flags s z memory n x es ef en ex ez em k = k ∙ rw (es, ef, en, ex, ez, em)
+
+  pub copy-fields : (flags target source n x y : ℕ) → target ≡ field 4 bytes 8 → flags ≡ field 4 bytes 4 → n ≡ field 8 bytes 16 → x ≡ field 8 bytes 24 → source ≡ field 4 bytes 12 → y ≡ field 8 bytes 32
+      → e ≡ copyEdit (t .objects) (t .mappings) flags target source n x y → e ≡ copyDecided t bytes
+  unfolding copyDecided
+  copy-fields flags target source n x y et ef en ex es ey k = k ∙ rw (et, ef, en, ex, es, ey)
+
+  pub unmap-fields : (s a n : ℕ) → s ≡ field 4 bytes 4 → a ≡ field 8 bytes 8 → n ≡ field 8 bytes 16 → e ≡ unmapEdit (t .objects) (t .mappings) s a n → e ≡ unmapDecided t bytes
+  unfolding unmapDecided
+  unmap-fields s a n es ea en k = k ∙ rw (es, ea, en)

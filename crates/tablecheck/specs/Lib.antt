@@ -1,0 +1,2 @@
+-- What comes before every command.
+pub mod Gate
