@@ -2,3 +2,8 @@
 pub mod Plan
 pub mod Ranges
 pub mod Refused
+pub mod Commands
+pub mod Mapped
+pub mod Unmapped
+pub mod Allowed
+pub mod Copied

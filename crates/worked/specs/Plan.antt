@@ -27,12 +27,12 @@ use Rattle.table.specs.Good.{listsTouch, good}
 use Rattle.table.specs.Fresh.{fresh-good}
 use Rattle.edits.specs.declared.Answer.{Answer}
 use Rattle.edits.specs.Edits.{putObject, applied}
-use Rattle.edits.specs.Answers.{outcome, outcomeId}
+use Rattle.edits.specs.Answers.{outcome, outcomeId, replied}
 use Rattle.devices.specs.Bind.{onlyFirst, trimmed, newDevice, bindChecks, bindEdit}
 use Rattle.devices.specs.Attach.{blockedBy, misfits, attachedObject, attachChecks, attachEdit}
 use Rattle.spaces.specs.Objects.{allocChecks, allocEdit}
-use Rattle.spacecalls.specs.Gate.{gateErrno}
-use Rattle.spacecalls.specs.Calls.{allocCall, allocAnswer, allocBytes, idWritten}
+use Rattle.tablecheck.specs.Gate.{gateErrno}
+use Rattle.spacecalls.specs.Calls.{allocCall, allocAnswer, allocBytes}
 use Rattle.spacecalls.specs.Good.{alloc-good}
 use Rattle.hostcalls.specs.Calls.{tableErrno, bindCall, attachCall}
 use Rattle.hostcalls.specs.Good.{bind-good, attach-good}
@@ -72,20 +72,20 @@ askSpace = u32 12 ++ (u32 0 ++ u32 0)
 fresh-is : good (freshTable (2 ^ 36)) ≡ true
 fresh-is = fresh-good (2 ^ 36) (omega arith)
 
-alloc-open : gateErrno (freshTable (2 ^ 36)) 0x3B81 askSpace ≡ 0
+pub alloc-open : (t : Table) → good t ≡ true → gateErrno t 0x3B81 askSpace ≡ 0
 unfolding gateErrno opened lookup commands find openChecks sizeChecks sizeField field put first tail zeros all
-alloc-open = rw fresh-is
+alloc-open t g = rw g
 
 pub space-made : allocAnswer (freshTable (2 ^ 36)) askSpace ≡ answer (pos 0) oneSpace
 unfolding allocAnswer allocCall outcome applied putObject allocEdit allocChecks first freeRecord seek freshTable oneSpace field put result
-space-made = rw alloc-open
+space-made = rw (alloc-open (freshTable (2 ^ 36)) fresh-is)
 
 -- the reply has the id 1
 pub space-id : allocBytes (freshTable (2 ^ 36)) askSpace ≡ u32 12 ++ (u32 0 ++ u32 1)
-unfolding allocBytes idWritten allocCall allocEdit allocChecks first freeRecord seek freshTable field put
-space-id = rw alloc-open
+unfolding allocBytes replied allocCall allocEdit allocChecks first freeRecord seek freshTable field put
+space-id = rw (alloc-open (freshTable (2 ^ 36)) fresh-is)
 
-space-good : good oneSpace ≡ true
+pub space-good : good oneSpace ≡ true
 space-good = ap (λ (a : Answer). good (a .table)) (sym space-made) ∙ alloc-good (freshTable (2 ^ 36)) fresh-is askSpace
 
 -- ---- bind: the id 2

@@ -20,7 +20,7 @@ use Rattle.freeranges.specs.Written.{putAt, putRanges}
 use Rattle.table.specs.Records.{objectAt, spaceAt}
 use Rattle.table.specs.Spaces.{pageFor, alignment, reservedFor, reservedOf}
 use Rattle.spaces.specs.Ranges.{freeOf, rangesChecks, rangesErrno, rangesBytes, rangesArea}
-use Rattle.spacecalls.specs.Gate.{gateErrno}
+use Rattle.tablecheck.specs.Gate.{gateErrno}
 use Rattle.spacecalls.specs.Calls.{rangesCall, rangesResult, rangesReply, rangesWritten}
 use Rattle.worked.specs.Plan.{u32, u64, withDevice, attached, attached-good}
 

@@ -15,7 +15,7 @@ use Rattle.edits.specs.Answers.{outcome, outcomeId}
 use Rattle.devices.specs.Bind.{bindChecks, bindEdit}
 use Rattle.devices.specs.Attach.{attachChecks, attachEdit}
 use Rattle.spaces.specs.Objects.{inUse, destroyChecks, destroyEdit}
-use Rattle.spacecalls.specs.Gate.{gateErrno}
+use Rattle.tablecheck.specs.Gate.{gateErrno}
 use Rattle.spacecalls.specs.Calls.{destroyAnswer}
 use Rattle.hostcalls.specs.Calls.{tableErrno, bindCall, attachCall}
 use Rattle.worked.specs.Plan.{u32, answer, planReserved, withDevice, attached, attached-good}
