@@ -1,534 +1,16 @@
 #!/usr/bin/env python3
-"""Calls on one table, and the answers worked out here from document 01, apart from the Rattle code.
+"""Runs of the calls that place no mapping, with the answers of the model.
 
     tablevectors.py           write crates/tablevectors/stdin and crates/tablevectors/stdout
     tablevectors.py --check   fail where the stored files differ from what this script makes
-
-A record is a u32 operation, a u32 count of bytes and so many bytes; each gives one line: the operation, the result, what
-the call wrote, 1 if the table is good after it, and two sums over every number of the table.
 """
 import struct
-import sys
-from collections import Counter, namedtuple
 
-TOP = 2**64 - 1
-FREE, SPACE, LOOSE, ATTACHED = range(4)
-
-Object = namedtuple('Object', 'kind home bitmap count starts lasts size lows highs')
-Mapping = namedtuple('Mapping', 'space rights founder backing address length memory')
-Table = namedtuple('Table', 'limit objects mappings')
-
-RELEASED = Object(FREE, 0, 0, 0, (0,) * 4, (0,) * 4, 0, (0,) * 8, (0,) * 8)
-NEW_SPACE = RELEASED._replace(kind=SPACE)
-UNMAPPED = Mapping(0, 0, 0, 0, 0, 0, 0)
-
-
-# ---- what document 01 says of a table. Addresses are Python ranges, so that nothing is computed as the Rattle code computes it.
-def addresses(start, last):
-    return range(start, last + 1)
-
-
-def run(start, length):
-    return range(start, start + length)
-
-
-def meet(p, q):
-    return bool(p) and bool(q) and (p[0] in q or q[0] in p)
-
-
-def lowest_bit(bitmap):
-    return next(2**k for k in range(64) if bitmap // 2**k % 2)
-
-
-def reserved(o):
-    return [addresses(*r) for r in list(zip(o.starts, o.lasts))[:o.count]]
-
-
-def allowed(o):
-    return [addresses(*r) for r in list(zip(o.lows, o.highs))[:o.size]]
-
-
-def object_of(t, i):
-    return t.objects[i - 1] if i in range(1, 33) else RELEASED
-
-
-def is_space(t, i):
-    return object_of(t, i).kind == SPACE
-
-
-def is_device(t, i):
-    return object_of(t, i).kind in (LOOSE, ATTACHED)
-
-
-def devices_of(t, space):
-    return [o for o in t.objects if o.kind == ATTACHED and o.home == space]
-
-
-def reserved_of(t, space):
-    return [r for o in devices_of(t, space) for r in reserved(o)]
-
-
-def alignment_of(t, space):
-    return max((lowest_bit(o.bitmap) for o in devices_of(t, space) if o.bitmap), default=1)
-
-
-def live(t):
-    return [m for m in t.mappings if m.space != 0]
-
-
-def mappings_of(t, space):
-    return [m for m in live(t) if m.space == space]
-
-
-def aligned(m, a):
-    return m.address % a == 0 and (m.address + m.length) % a == 0
-
-
-def pages(memory, length):
-    return len(range(memory - memory % 4096, memory + length, 4096))
-
-
-def charge(t):
-    """Each backing once. Mappings of one backing agree in a good table, so it does not matter which is asked."""
-    return sum({m.backing: pages(m.memory, m.length) for m in live(t)}.values())
-
-
-def overlapping(runs):
-    """Whether two of them share an address: after sorting, whether one begins before the one before it has ended."""
-    runs = sorted((p for p in runs if p), key=lambda p: p[0])
-    return any(q[0] <= p[-1] for p, q in zip(runs, runs[1:]))
-
-
-def device_faults(o):
-    """What bind would refuse, its 22s."""
-    found = set()
-    if o.bitmap == 0:
-        found.add('bitmap 0')
-    elif lowest_bit(o.bitmap) > 4096:
-        found.add('lowest page above 4096')
-    if o.count > 4:
-        found.add('over 4 reserved ranges')
-    if not all(reserved(o)):
-        found.add('reserved start above last')
-    return found
-
-
-def list_faults(t, i, o):
-    """What ALLOW_IOVAS would refuse of the list it has: 12, 22 and 98."""
-    found = set()
-    if o.size > 8:
-        found.add('over 8 allowed ranges')
-    if not all(allowed(o)):
-        found.add('allowed start above last')
-    if overlapping(allowed(o)):
-        found.add('allowed ranges overlap')
-    if any(meet(p, r) for p in allowed(o) for r in reserved_of(t, i)):
-        found.add('allowed touches reserved')
-    return found
-
-
-def object_faults(t, i, o):
-    """Of the object with id i."""
-    found = set()
-    no_device = o.bitmap == 0 and o.count == 0 and not any(o.starts + o.lasts)
-    no_list = o.size == 0 and not any(o.lows + o.highs)
-    if o.kind == FREE and not (no_device and no_list):
-        found.add('released object not zero')
-    if o.kind == SPACE and not no_device:
-        found.add('space with a field of a device')
-    if o.kind in (LOOSE, ATTACHED) and not no_list:
-        found.add('device with a field of a space')
-    if o.kind in (LOOSE, ATTACHED):
-        found |= device_faults(o)
-        if any(o.starts[o.count:] + o.lasts[o.count:]):
-            found.add('unused reserved place not zero')
-    if o.kind == ATTACHED and not is_space(t, o.home):
-        found.add('device of no space')
-    if o.kind == SPACE:
-        found |= list_faults(t, i, o)
-        if any(o.lows[o.size:] + o.highs[o.size:]):
-            found.add('unused allowed place not zero')
-    return found
-
-
-def mapping_faults(t, m):
-    """Of a mapping in use, for itself."""
-    found = set()
-    if not is_space(t, m.space):
-        found.add('mapping of no space')
-    if m.length == 0:
-        found.add('length 0')
-    if m.length > 2**40:
-        found.add('length over 2^40')
-    if m.rights % 4 == 0:
-        found.add('no right')
-    if m.address + m.length - 1 > TOP:
-        found.add('past the top')
-    if m.memory + m.length - 1 > TOP:
-        found.add('past the top of memory')
-    if any(meet(run(m.address, m.length), r) for r in reserved_of(t, m.space)):
-        found.add('touches reserved')
-    if not aligned(m, alignment_of(t, m.space)):
-        found.add('misaligned')
-    if m.rights % 2 and m.founder != 1:
-        found.add('writes without the founding right')
-    if not 1 <= m.backing <= 128:
-        found.add('backing number')
-    if m.rights > 3 or m.founder > 1:
-        found.add('bits of a field that no rule uses')  # our reading: part of "a field its kind does not use"
-    return found
-
-
-def faults(t):
-    """Every clause of "A table is bad" that holds, by name. That the mapping records are 128 is the type's doing here."""
-    found = set()
-    for i, o in enumerate(t.objects, 1):
-        found |= object_faults(t, i, o)
-    for m in t.mappings:
-        if m.space != 0:
-            found |= mapping_faults(t, m)
-        elif m != UNMAPPED:
-            found.add('released mapping not zero')
-    if any(overlapping([run(m.address, m.length) for m in live(t) if m.space == s]) for s in {m.space for m in live(t)}):
-        found.add('mappings overlap')
-    for field in ('memory', 'length', 'founder'):
-        if len({(m.backing, getattr(m, field)) for m in live(t)}) != len({m.backing for m in live(t)}):
-            found.add('backing differs in ' + field)
-    if t.limit > 2**36:
-        found.add('limit above 2^36')
-    if not found and t.limit < charge(t):
-        found.add('limit below the charge')
-    return found
-
-
-# ---- the calls
-class Refused(Exception):
-    pass
-
-
-def need(holds, errno):
-    if not holds:
-        raise Refused(errno)
-
-
-def u32(b, at):
-    return int.from_bytes(b[at:at + 4], 'little')
-
-
-def u64(b, at):
-    return int.from_bytes(b[at:at + 8], 'little')
-
-
-def put_object(t, i, o):
-    """The object with id i becomes o."""
-    return t._replace(objects=t.objects[:i - 1] + (o,) + t.objects[i:])
-
-
-def padded(numbers, room):
-    return tuple(numbers) + (0,) * (room - len(numbers))
-
-
-def new_id(t):
-    free = [i for i in range(1, 33) if object_of(t, i).kind == FREE]
-    need(free, 12)
-    return min(free)
-
-
-def opened(cmd, known):
-    need(len(cmd) >= 4, 14)
-    need(u32(cmd, 0) >= known, 22)
-    need(u32(cmd, 0) <= len(cmd), 14)
-    need(not any(cmd[known:u32(cmd, 0)]), 7)
-
-
-def model_bind(t, bitmap, count, starts, lasts):
-    o = Object(LOOSE, 0, bitmap, count, padded(starts[:count], 4), padded(lasts[:count], 4), 0, (0,) * 8, (0,) * 8)
-    need(bitmap != 0, 22)
-    need(lowest_bit(bitmap) <= 4096, 22)
-    need(count <= 4, 22)
-    need(all(reserved(o)), 22)
-    i = new_id(t)
-    return i, put_object(t, i, o)
-
-
-def model_attach(t, device, space):
-    need(is_device(t, device), 2)
-    need(is_space(t, space), 2)
-    o = object_of(t, device)
-    need(o.kind == LOOSE, 16)
-    taken = [run(m.address, m.length) for m in mappings_of(t, space)] + allowed(object_of(t, space))
-    need(not any(meet(r, p) for r in reserved(o) for p in taken), 98)
-    after = put_object(t, device, o._replace(kind=ATTACHED, home=space))
-    need(all(aligned(m, alignment_of(after, space)) for m in mappings_of(t, space)), 98)
-    return 0, after
-
-
-def model_detach(t, device):
-    need(is_device(t, device), 2)
-    o = object_of(t, device)
-    need(o.kind == ATTACHED, 22)
-    return 0, put_object(t, device, o._replace(kind=LOOSE, home=0))
-
-
-def model_reach(t, device, address, length, write):
-    need(is_device(t, device), 2)
-    need(object_of(t, device).kind == ATTACHED, 22)
-    need(length != 0, 22)
-    need(address + length - 1 <= TOP, 75)
-    asked = run(address, length)
-    around = [m for m in mappings_of(t, object_of(t, device).home)
-              if asked[0] in run(m.address, m.length) and asked[-1] in run(m.address, m.length)]
-    need(around, 14)
-    m, = around
-    need(m.rights in ((1, 3) if write else (2, 3)), 1)
-    return m.memory + (address - m.address)
-
-
-def model_alloc(t, cmd):
-    opened(cmd, 12)
-    need(u32(cmd, 4) == 0, 95)
-    i = new_id(t)
-    return put_object(t, i, NEW_SPACE), cmd[:8] + struct.pack('<I', i) + cmd[12:]
-
-
-def model_destroy(t, cmd):
-    opened(cmd, 8)
-    i = u32(cmd, 4)
-    o = object_of(t, i)
-    need(o.kind != FREE, 2)
-    need(o.kind != ATTACHED, 16)
-    need(o.kind != SPACE or not devices_of(t, i), 16)
-    t = put_object(t, i, RELEASED)
-    if o.kind == SPACE:
-        t = t._replace(mappings=tuple(UNMAPPED if m.space == i else m for m in t.mappings))
-    return t
-
-
-def model_allow(t, cmd, area):
-    opened(cmd, 24)
-    space, count = u32(cmd, 4), u32(cmd, 8)
-    need(u32(cmd, 12) == 0, 95)
-    need(is_space(t, space), 2)
-    need(count <= 8, 12)
-    need(len(area) >= 16 * count, 14)
-    lows = [u64(area, 16 * k) for k in range(count)]
-    highs = [u64(area, 16 * k + 8) for k in range(count)]
-    listed = [addresses(*r) for r in zip(lows, highs)]
-    need(all(listed), 22)
-    need(not overlapping(listed), 22)
-    need(not any(meet(p, r) for p in listed for r in reserved_of(t, space)), 98)
-    return put_object(t, space, object_of(t, space)._replace(size=count, lows=padded(lows, 8), highs=padded(highs, 8)))
-
-
-def not_reserved(taken):
-    """Cut all addresses at every end of a range and keep the pieces that are in none. No two adjoin: a reserved range ends or begins at each cut."""
-    ends = sorted({0, TOP + 1} | {x for r in taken for x in (r.start, r.stop)})
-    return [range(a, b) for a, b in zip(ends, ends[1:]) if not any(a in r for r in taken)]
-
-
-def model_ranges(t, cmd, area):
-    opened(cmd, 32)
-    space, count = u32(cmd, 4), u32(cmd, 8)
-    need(u32(cmd, 12) == 0, 95)
-    need(is_space(t, space), 2)
-    need(len(area) >= 16 * count, 14)
-    full = not_reserved(reserved_of(t, space))
-    told = b''.join(struct.pack('<QQ', r[0], r[-1]) for r in full[:count])
-    cmd = cmd[:8] + struct.pack('<I', len(full)) + cmd[12:24] + struct.pack('<Q', alignment_of(t, space)) + cmd[32:]
-    return 90 if len(full) > count else 0, cmd, told + area[len(told):]
-
-
-# ---- records and lines
-records, lines, errnos, broken = [], [], Counter(), Counter()
-table = Table(0, (RELEASED,) * 32, (UNMAPPED,) * 128)
-
-
-def numbers(t):
-    yield t.limit
-    for o in t.objects:
-        yield from (o.kind, o.home, o.bitmap, o.count, *o.starts, *o.lasts, o.size, *o.lows, *o.highs)
-    for m in t.mappings:
-        yield from m
-
-
-def sums(t):
-    plain, ordered = 1, 0
-    for x in numbers(t):
-        plain = (plain + x) % (2**32 - 5)
-        ordered = (ordered + plain) % (2**32 - 5)
-    return '%08x%08x' % (plain, ordered)
-
-
-def packed(form, *given):
-    """Numbers, without the words at the end that are zero."""
-    body = struct.pack('<' + form, *given).rstrip(b'\0')
-    return body + bytes(-len(body) % 8)
-
-
-def alternating(starts, lasts):
-    return [x for r in zip(starts, lasts) for x in r]
-
-
-def record(operation, body, parts, after):
-    global table
-    assert operation not in range(2, 10) or faults(table) or not faults(after)    # no call makes a bad table out of a good one
-    table = after
-    records.append(struct.pack('<II', operation, len(body)) + body)
-    lines.append(' '.join([str(p) for p in parts] + ['0' if faults(table) else '1', sums(table)]))
-
-
-def outcome(call, *given):
-    """What a call on the table gives: its errno, and its answer where that is 0. A bad table is 117 before all."""
-    try:
-        need(not faults(table), 117)
-        return 0, call(table, *given)
-    except Refused as refused:
-        return refused.args[0], None
-
-
-def told(name, errno, value, want):
-    """The result. A case by hand says what it wants."""
-    result = -errno if errno else value
-    errnos[name, errno] += 1
-    assert want is None or want == result, 'line %d, %s: %d, wanted %d' % (len(lines) + 1, name, result, want)
-    return result
-
-
-def lent(b):
-    return '[%s]' % b.hex()
-
-
-def fresh(limit=2**36, want=None):
-    """Above 2^36 there is no table; one that every call refuses stands in for it."""
-    result = told('fresh', 22 if limit > 2**36 else 0, 0, want)
-    record(1, packed('Q', limit), ['fresh', result], Table(limit, (RELEASED,) * 32, (UNMAPPED,) * 128))
-
-
-def bind(bitmap, ranges=(), count=None, want=None):
-    count = len(ranges) if count is None else count
-    starts, lasts = padded([s for s, _ in ranges], 4), padded([l for _, l in ranges], 4)
-    errno, given = outcome(model_bind, bitmap, count, starts, lasts)
-    i, after = given or (0, table)
-    body = packed('QII8Q', bitmap, count, 0, *alternating(starts, lasts))
-    record(2, body, ['bind', told('bind', errno, i, want)], after)
-
-
-def attach(device, space, want=None):
-    errno, given = outcome(model_attach, device, space)
-    record(3, packed('II', device, space), ['attach', told('attach', errno, 0, want)], given[1] if given else table)
-
-
-def detach(device, want=None):
-    errno, given = outcome(model_detach, device)
-    record(4, packed('I', device), ['detach', told('detach', errno, 0, want)], given[1] if given else table)
-
-
-def reach(device, address, length, write=False, want=None, at=None):
-    errno, memory = outcome(model_reach, device, address, length, write)
-    assert at is None or at == memory, 'reach: %d, wanted %d' % (memory, at)
-    record(5, packed('IIQQ', device, write, address, length), ['reach', told('reach', errno, 0, want), memory or 0], table)
-
-
-def alloc(flags=0, cmd=None, want=None, i=None):
-    cmd = struct.pack('<III', 12, flags, 0xAAAAAAAA) if cmd is None else cmd
-    errno, given = outcome(model_alloc, cmd)
-    after, reply = given or (table, cmd)
-    assert i is None or i == u32(reply, 8), 'alloc: %d, wanted %d' % (u32(reply, 8), i)
-    record(6, cmd, ['alloc', told('alloc', errno, 0, want), lent(reply)], after)
-
-
-def destroy(i=0, cmd=None, want=None):
-    cmd = struct.pack('<II', 8, i) if cmd is None else cmd
-    errno, after = outcome(model_destroy, cmd)
-    record(7, cmd, ['destroy', told('destroy', errno, 0, want)], after or table)
-
-
-def pairs(ranges):
-    return b''.join(struct.pack('<QQ', *r) for r in ranges)
-
-
-def allow(space=0, ranges=(), count=None, field=0, area=None, cmd=None, pointer=0, want=None):
-    count = len(ranges) if count is None else count
-    area = pairs(ranges) if area is None else area
-    cmd = struct.pack('<IIIIQ', 24, space, count, field, pointer) if cmd is None else cmd
-    errno, after = outcome(model_allow, cmd, area)
-    record(8, struct.pack('<Q', len(cmd)) + cmd + area, ['allow', told('allow', errno, 0, want)], after or table)
-
-
-def ranges(space=0, count=0, field=0, area=None, cmd=None, want=None, gives=None, a=None):
-    """gives: the ranges written; a: the alignment written."""
-    area = b'\xaa' * (16 * count) if area is None else area
-    cmd = struct.pack('<IIIIQQ', 32, space, count, field, 0xBBBBBBBBBBBBBBBB, 0xCCCCCCCCCCCCCCCC) if cmd is None else cmd
-    errno, given = outcome(model_ranges, cmd, area)
-    if given:
-        errno, reply, written = given
-    else:
-        reply, written = cmd, area
-    result = told('ranges', errno, 0, want)
-    if gives is not None:
-        assert written == pairs(gives) + area[16 * len(gives):], 'ranges: %s, wanted %s' % (written.hex(), gives)
-    assert a is None or a == u64(reply, 24), 'ranges: alignment %d, wanted %d' % (u64(reply, 24), a)
-    record(9, struct.pack('<Q', len(cmd)) + cmd + area, ['ranges', result, lent(reply), lent(written)], table)
-
-
-def mapping(place, m=UNMAPPED, **changed):
-    """The mapping record is stored as it is."""
-    m = m._replace(**changed)
-    body = packed('6I3Q', place, m.space, m.rights, m.founder, m.backing, 0, m.address, m.length, m.memory)
-    record(10, body, ['mapping'], table._replace(mappings=table.mappings[:place] + (m,) + table.mappings[place + 1:]))
-
-
-def stored(i, o=RELEASED, **changed):
-    """The object record with id i is stored as it is."""
-    o = o._replace(**changed)
-    body = packed('6I25Q', i - 1, o.kind, o.home, o.count, o.size, 0, o.bitmap, *alternating(o.starts, o.lasts), *alternating(o.lows, o.highs))
-    record(11, body, ['object'], put_object(table, i, o))
-
-
-def limit(most):
-    record(12, packed('Q', most), ['limit'], table._replace(limit=most))
-
-
-def good():
-    assert not faults(table), faults(table)
-
-
-turn = 0
-
-
-def bad(*clauses):
-    """The table is bad by exactly these clauses, and the next call in turn is refused."""
-    global turn
-    assert faults(table) == set(clauses), faults(table)
-    broken.update(clauses)
-    turn += 1
-    call_in_turn(turn, want=-117)
-
-
-def call_in_turn(k, want):
-    """One of the eight calls."""
-    [lambda: bind(4096, want=want), lambda: attach(2, 1, want=want), lambda: detach(2, want=want), lambda: reach(2, 0, 1, want=want),
-     lambda: alloc(want=want), lambda: destroy(1, want=want), lambda: allow(1, [], want=want), lambda: ranges(1, 1, want=want)][k % 8]()
-
-
-MSI = (0xFEE00000, 0xFEEFFFFF)
-ALL = (0, TOP)
-
-
-def listed(o, given):
-    """The object with this allow list."""
-    return o._replace(size=len(given), lows=padded([s for s, _ in given], 8), highs=padded([l for _, l in given], 8))
-
-
-def device(bitmap=4096, given=(), home=0):
-    return Object(ATTACHED if home else LOOSE, home, bitmap, len(given), padded([s for s, _ in given], 4), padded([l for _, l in given], 4),
-                  0, (0,) * 8, (0,) * 8)
-
-
-def page(space, address, backing, **changed):
-    """One readable page of memory 0."""
-    return Mapping(space, 2, 0, backing, address, 4096, 0)._replace(**changed)
-
+from model import ATTACHED, NEW_SPACE, RELEASED, TOP, UNMAPPED, object_of
+from atrandom import (one_of, random_alloc, random_allow, random_attach, random_bind, random_destroy, random_detach, random_mapping, random_object,
+                      random_ranges, random_reach)
+from runs import (ALL, MSI, alloc, allow, attach, bad, badly_opened, bind, call_in_turn, destroy, detach, device, errnos_are, fresh, good, limit,
+                  listed, mapping, now, page, pairs, ranges, reach, record, store, stored, told_counts)
 
 # ==== by hand: a fresh table
 fresh(0, want=0)
@@ -538,7 +20,7 @@ for most in (1, 2**36 - 1, 2**36):
 for most in (2**36 + 1, 2**37, 2**63, TOP):
     fresh(most, want=-22)
     call_in_turn(most, want=-117)
-record(99, b'', ['unknown operation'], table)
+record(99, b'', ['unknown operation'], now())
 
 # ==== K8, K9
 fresh(4)
@@ -548,27 +30,9 @@ attach(2, 1, want=0)
 ranges(1, 2, want=0, gives=[(0, 0xFEDFFFFF), (0xFEF00000, TOP)], a=4096)
 ranges(1, 1, want=-90, gives=[(0, 0xFEDFFFFF)], a=4096)
 
-
-
-def sized(size, n, fill=0):
-    return (struct.pack('<I', size) + bytes([fill]) * n)[:n]
-
-
 # ==== opening a command, O1 to O8, by each of the four
 for known, call in ((12, alloc), (8, destroy), (24, allow), (32, ranges)):
-    for n in range(4):
-        call(cmd=sized(known, n), want=-14)
-    call(cmd=bytes(3), want=-14)
-    call(cmd=sized(0, 4), want=-22)                                    # O1: size before bytes
-    call(cmd=sized(known - 1, known), want=-22)
-    call(cmd=sized(known - 1, known, 1), want=-22)
-    call(cmd=sized(known, known - 1), want=-14)
-    call(cmd=sized(known + 1, known), want=-14)
-    for size in (2**31, 2**32 - known, 2**32 - 4, 2**32 - 1):          # O7
-        call(cmd=sized(size, known + 8), want=-14)
-    call(cmd=sized(known + 8, known) + bytes(7) + b'\x80', want=-7)    # O5: before any field
-    call(cmd=sized(known + 8, known, 1) + b'\x01' + bytes(7), want=-7)
-    call(cmd=sized(known + 7, known, 1) + bytes(6) + b'\x01\x01', want=-7)
+    badly_opened(known, call)
 fresh()
 ok = struct.pack('<III', 20, 0, 7)
 alloc(cmd=ok + bytes(8), want=0, i=1)                                  # a tail of zeros
@@ -953,7 +417,7 @@ good()
 
 def wrong(place, m, *clauses, **changed):
     """A mapping that makes the table bad, and that is taken away again."""
-    before = table.mappings[place]
+    before = now().mappings[place]
     mapping(place, m, **changed)
     bad(*clauses)
     mapping(place, before)
@@ -961,14 +425,14 @@ def wrong(place, m, *clauses, **changed):
 
 
 def fine(place, m, **changed):
-    before = table.mappings[place]
+    before = now().mappings[place]
     mapping(place, m, **changed)
     good()
     mapping(place, before)
 
 
 def wrong_object(i, o, *clauses, **changed):
-    before = object_of(table, i)
+    before = object_of(now(), i)
     stored(i, o, **changed)
     bad(*clauses)
     stored(i, before)
@@ -976,7 +440,7 @@ def wrong_object(i, o, *clauses, **changed):
 
 
 def fine_object(i, o, **changed):
-    before = object_of(table, i)
+    before = object_of(now(), i)
     stored(i, o, **changed)
     good()
     stored(i, before)
@@ -1197,148 +661,7 @@ destroy(2, want=0)
 limit(0)
 good()
 
-
-# ==== at random, from a fixed seed, over few ids and addresses
-seed = 1
-
-
-def pick(n):
-    """A number below n. The generator is written out, so that every Python makes the same."""
-    global seed
-    seed = (seed * 6364136223846793005 + 1442695040888963407) % 2**64
-    return (seed >> 33) % n
-
-
-def one_of(*choices):
-    return choices[pick(len(choices))]
-
-
-def chance(n):
-    return pick(n) == 0
-
-
-def some_id():
-    return one_of(0, 33, 2**32 - 1) if chance(16) else 1 + pick(7)
-
-
-def id_of(*kinds):
-    """Mostly the id of an object of this kind."""
-    having = [i for i in range(1, 33) if object_of(table, i).kind in kinds]
-    return some_id() if chance(6) or not having else one_of(*having)
-
-
-def some_address():
-    return TOP + 1 - 0x400 * (1 + pick(8)) if chance(6) else 0x400 * pick(48)
-
-
-def some_range(most):
-    start = some_address()
-    last = min(start + 0x400 * (1 + pick(most)) - 1, TOP)
-    return (last, start) if chance(24) else (start, last - pick(2)) if chance(6) else (start, last)
-
-
-def some_ranges(most, longest):
-    return [some_range(longest) for _ in range(pick(most + 1))]
-
-
-def damaged(cmd, known):
-    """Another size, a tail, or fewer bytes lent."""
-    size = one_of(known - 1, known + 4, known + 8, known + 8, 2**32 - 1, 0)
-    cmd = struct.pack('<I', size) + cmd[4:] + one_of(bytes(8), bytes(8), bytes(5) + b'\x01' + bytes(2))
-    return cmd[:one_of(3, known - 1, known, known + 5, known + 8, known + 8, known + 8)]
-
-
-def maybe(cmd, known):
-    return damaged(cmd, known) if chance(5) else cmd
-
-
-def random_bind():
-    given = some_ranges(4, 4)
-    bitmap = one_of(1024, 2048, 4096, 4096 + 2**20, 0x3000, 0, 8192) if chance(3) else one_of(1, 512, 1024)
-    bind(bitmap, given, count=one_of(5, 2, 2**31) if chance(10) else None)
-
-
-def random_attach():
-    attach(id_of(LOOSE), id_of(SPACE))
-
-
-def random_detach():
-    detach(id_of(ATTACHED))
-
-
-def random_reach():
-    d = id_of(ATTACHED)
-    near = mappings_of(table, object_of(table, d).home) if object_of(table, d).kind == ATTACHED else []
-    if near and not chance(8):
-        m = one_of(*near)
-        address = min(m.address + one_of(0, 0, 0, 1, m.length - 1, m.length), TOP)
-        length = one_of(1, m.address + m.length - address, m.address + m.length - address, m.length, m.length + 1, 0, TOP)
-    else:
-        address, length = some_address(), one_of(1, 0x400, 0x401, 0, 2**13)
-    reach(d, address, length, write=chance(3))
-
-
-def random_alloc():
-    alloc(cmd=maybe(struct.pack('<III', 12, one_of(1, 2**31) if chance(6) else 0, pick(2**20)), 12))
-
-
-def random_destroy():
-    destroy(cmd=maybe(struct.pack('<II', 8, id_of(SPACE, LOOSE, ATTACHED)), 8))
-
-
-def random_allow():
-    given = some_ranges(3, 6)
-    count = one_of(9, 5, 2**28) if chance(10) else len(given)
-    cmd = maybe(struct.pack('<IIIIQ', 24, id_of(SPACE), count, one_of(1, 2**31) if chance(12) else 0, pick(2**20)), 24)
-    allow(cmd=cmd, area=pairs(given)[:-1] if chance(10) else pairs(given) + bytes(pick(3)))
-
-
-def random_ranges():
-    count = pick(6)
-    cmd = maybe(struct.pack('<IIIIQQ', 32, id_of(SPACE), count, one_of(1, 2**31) if chance(12) else 0, pick(2**20), 0), 32)
-    ranges(cmd=cmd, area=b'\x55' * (max(16 * count - 1, 0) if chance(10) else 16 * count + pick(3)))
-
-
-def some_mapping():
-    length = 0x400 * (1 + pick(6)) if chance(2) else one_of(1, 0x400, 0x1000)
-    sources = live(table)
-    if sources and chance(4):                                          # as COPY would
-        m = one_of(*sources)
-        return m._replace(space=id_of(SPACE), address=some_address(), rights=1 + pick(3) if m.founder else 2)
-    founder = pick(2)
-    return Mapping(id_of(SPACE), 1 + pick(3) if founder else 2, founder, 1 + pick(9), some_address(), length, 0x100 * pick(64))
-
-
-def random_mapping():
-    place = pick(12)
-    before, proposals = table.mappings[place], [some_mapping() for _ in range(20)]
-    fitting = [m for m in proposals if not faults(table._replace(mappings=table.mappings[:place] + (m,) + table.mappings[place + 1:]))]
-    if fitting and not chance(8):
-        return mapping(place, fitting[0])
-    mapping(place, proposals[0])
-    if faults(table):
-        broken.update(faults(table))
-        random_call()
-        mapping(place, before)
-
-
-def random_object():
-    i = 1 + pick(8)
-    before = object_of(table, i)
-    field = one_of('bitmap', 'count', 'size', 'starts', 'lasts', 'lows', 'highs', 'kind')
-    value = getattr(before, field)
-    if isinstance(value, tuple):
-        k = pick(len(value))
-        value = value[:k] + (value[k] + one_of(1, 0x400, 2**63) & TOP,) + value[k + 1:]
-    else:
-        value = pick(3) if field == 'kind' else value + 1 + pick(3)
-    stored(i, before, **({'kind': value, 'home': 0} if field == 'kind' else {field: value}))
-    if faults(table):
-        broken.update(faults(table))
-        random_call()
-        stored(i, before)
-
-
+# ==== at random
 CALLS = [random_bind] * 2 + [random_attach] * 4 + [random_detach] * 2 + [random_reach] * 5 + [random_alloc] * 2 + [random_destroy] * 2 \
     + [random_allow] * 4 + [random_ranges] * 3
 
@@ -1354,10 +677,11 @@ for most in (2**36, 6, 2**36, 12, 3, 24):
     for _ in range(4):
         random_bind()
     for _ in range(4):
-        random_mapping()
+        random_mapping(random_call)
         random_attach()
     for _ in range(44):
-        one_of(*[random_call] * 14, random_mapping, random_mapping, random_object)()
+        step = one_of(*[random_call] * 14, random_mapping, random_mapping, random_object)
+        step() if step == random_call else step(random_call)
 
 # ==== every errno that each call can give, at least twice, and no other
 OPENING = {14, 22, 7}
@@ -1365,29 +689,6 @@ CAN = {
     'fresh': {22}, 'bind': {22, 12}, 'attach': {2, 16, 98}, 'detach': {2, 22}, 'reach': {2, 22, 75, 14, 1}, 'alloc': {95, 12} | OPENING,
     'destroy': {2, 16} | OPENING, 'allow': {95, 2, 12, 14, 22, 98} | OPENING, 'ranges': {95, 2, 14, 90} | OPENING,
 }
-for name, can in CAN.items():
-    can = can | {0} | ({117} if name != 'fresh' else set())
-    seen = {e: n for (call, e), n in sorted(errnos.items()) if call == name}
-    assert set(seen) == can and min(seen.values()) >= 2, (name, seen, can)
-
-FILES = {
-    'crates/tablevectors/stdin': b''.join(records),
-    'crates/tablevectors/stdout': ''.join(line + '\n' for line in lines).encode(),
-}
-assert len(FILES['crates/tablevectors/stdin']) <= 65536, len(FILES['crates/tablevectors/stdin'])
-if sys.argv[1:] == ['--check']:
-    stale = [p for p, made in FILES.items() if open(p, 'rb').read() != made]
-    for p in stale:
-        print('tablevectors.py: %s is not what this script makes' % p)
-    print('tablevectors.py: %d cases' % len(lines))
-    sys.exit(1 if stale else 0)
-for p, made in FILES.items():
-    open(p, 'wb').write(made)
-print('tablevectors.py: wrote %d cases, %d bytes' % (len(lines), len(FILES['crates/tablevectors/stdin'])))
-for name in CAN:
-    print('%-8s' % name, ' '.join('%d:%d' % (e, n) for (call, e), n in sorted(errnos.items()) if call == name))
-total = Counter()
-for (_, e), n in errnos.items():
-    total[e] += n
-print('all      ' + ' '.join('%d:%d' % p for p in sorted(total.items())))
-print('broken   ' + '; '.join('%s %d' % p for p in sorted(broken.items())))
+errnos_are({name: can | {0} | ({117} if name != 'fresh' else set()) for name, can in CAN.items()})
+store('tablevectors')
+told_counts(CAN)

@@ -1,36 +1,6 @@
-// Runs a stored list of calls and edits on one table, a line each. tests/tablevectors.py makes the list and works out the lines on its own.
-// A record is a u32 operation, a u32 count of bytes and so many bytes.
-mod calls;
-mod lines;
-mod reading;
-mod stored;
-mod sums;
-
+// Replays the runs of calls that place no mapping. tests/tablevectors.py makes them.
 fn main() {
     let mut input = io::large_buffer();
     let n = io::read_full(0, &mut input);
-    run(&input[..n]);
-}
-
-// Answers each record up to the end, or up to one that is cut. The table of one record is the next one's.
-fn run(s: &[u8]) {
-    let first = edits::fresh(0);
-    let mut t = first.table;
-    let mut at: usize = 0;
-    while at < s.len() {
-        if s.len() - at < 8 {
-            return;
-        }
-        let operation = wire::read32(s, at);
-        let n = wire::read32(s, at + 4) as usize;
-        let from = at + 8;
-        if s.len() - from < n {
-            return;
-        }
-        let to = from + n;
-        let next = calls::answer(t, operation, &s[from..to]);
-        lines::ending(next);
-        t = next;
-        at = to;
-    }
+    replay::run(&input[..n]);
 }

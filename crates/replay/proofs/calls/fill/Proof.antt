@@ -3,8 +3,8 @@ use borrow.Author.Needs.{needs}
 use Prim.Native.Nat.{_-_}
 use mathlib.Core.Path.{_≡_}
 use lib.ListN.{length}
-use Rattle.tablevectors.proofs.calls.copy.Statement.{statement}
-use Rattle.tablevectors.proofs.calls.copy.Tie as tie
+use Rattle.replay.proofs.calls.fill.Statement.{statement}
+use Rattle.replay.proofs.calls.fill.Tie as tie
 
 abbrev Inv-loop : tie.InvT-loop
 Inv-loop from to₀ i₀ to i = length to ≡ length to₀
@@ -42,8 +42,8 @@ same-length-2 c = search needs
 returns-2 : tie.Need-returns-2 Inv-loop μ-loop
 returns-2 c = search needs
 
-pub copy-spec : {M : Type 1} → statement M
-copy-spec =
+pub fill-spec : {M : Type 1} → statement M
+fill-spec =
     tie.close
     (tie.spec
     Inv-loop

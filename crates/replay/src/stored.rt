@@ -1,9 +1,9 @@
 // Edits of the table past the calls: records stored as they are, for bad tables and for tables with mappings.
-use crate::lines::text;
 use crate::reading::allowed;
 use crate::reading::half;
 use crate::reading::reserved;
-use crate::reading::word;
+use lines::text;
+use lines::word;
 use table::Attachment;
 use table::Kind;
 use table::Mapping;
@@ -43,7 +43,7 @@ pub fn object(t: Table, body: &[u8]) -> Table {
     edits::put_object(t, half(body, 0) as usize, object)
 }
 
-// The numbers that tests/tablevectors.py gives to kinds.
+// The numbers that tests/model.py gives to kinds.
 fn kind_of(n: u32, space: u32) -> Kind {
     match n {
         1 => Kind::Space,

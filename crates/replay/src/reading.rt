@@ -1,17 +1,7 @@
 // Numbers of a record's body: u64 at multiples of 8, u32 at multiples of 4. What the body does not reach is 0, so that zeros at its end are left out.
+use lines::word;
 use rangelists::Allowed;
 use rangelists::Reserved;
-
-// The u64 at place k, of 8 bytes each.
-pub fn word(body: &[u8], k: usize) -> u64 {
-    if 64 < k {
-        return 0;
-    }
-    if body.len() < 8 * k + 8 {
-        return 0;
-    }
-    wire::read64(body, 8 * k)
-}
 
 // The u32 at place k, of 4 bytes each.
 pub fn half(body: &[u8], k: usize) -> u32 {

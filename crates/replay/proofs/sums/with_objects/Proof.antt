@@ -4,8 +4,8 @@ use Prim.Native.Nat.{_-_, _≤_}
 use mathlib.Core.Path.{_≡_}
 use lib.ListN.{length}
 use Rattle.lists.specs.Update.{length-mapped}
-use Rattle.tablevectors.proofs.sums.with_objects.Statement.{statement}
-use Rattle.tablevectors.proofs.sums.with_objects.Tie as tie
+use Rattle.replay.proofs.sums.with_objects.Statement.{statement}
+use Rattle.replay.proofs.sums.with_objects.Tie as tie
 
 abbrev Inv-loop : tie.InvT-loop
 Inv-loop os sums₀ i₀ sums i = (i ≤ 32) × (length os ≡ 32)

@@ -2,8 +2,8 @@
 use native.Mathlib.Omega.{arith}
 use lib.ListN.{length-take}
 use borrow.Author.Needs.{needs}
-use Rattle.tablevectors.proofs.calls.ranges.Statement.{statement}
-use Rattle.tablevectors.proofs.calls.ranges.Tie as tie
+use Rattle.replay.proofs.calls.ranges.Statement.{statement}
+use Rattle.replay.proofs.calls.ranges.Tie as tie
 
 unknown-requires : tie.Need-unknown-requires
 unknown-requires c κs = search needs
@@ -41,35 +41,35 @@ unknown-requires-4 c κs = search needs
 returns-4 : tie.Need-returns-4
 returns-4 c = search needs
 
-sub-copy : tie.Need-sub-copy
-sub-copy c = search needs
+sub-fill : tie.Need-sub-fill
+sub-fill c = search needs
 
-part-copy-start : tie.Need-part-copy-start
-part-copy-start c = search needs
+part-fill-start : tie.Need-part-fill-start
+part-fill-start c = search needs
 
-part-copy-end : tie.Need-part-copy-end
-part-copy-end c = search needs
+part-fill-end : tie.Need-part-fill-end
+part-fill-end c = search needs
 
-slice-aggregate-copy : tie.Need-slice-aggregate-copy
-slice-aggregate-copy c = search needs
+slice-aggregate-fill : tie.Need-slice-aggregate-fill
+slice-aggregate-fill c = search needs
 
-copy-requires : tie.Need-copy-requires
-copy-requires c κs = search needs
+fill-requires : tie.Need-fill-requires
+fill-requires c κs = search needs
 
-sub-copy-2 : tie.Need-sub-copy-2
-sub-copy-2 c = search needs
+sub-fill-2 : tie.Need-sub-fill-2
+sub-fill-2 c = search needs
 
-part-copy-start-2 : tie.Need-part-copy-start-2
-part-copy-start-2 c = search needs
+part-fill-start-2 : tie.Need-part-fill-start-2
+part-fill-start-2 c = search needs
 
-part-copy-end-2 : tie.Need-part-copy-end-2
-part-copy-end-2 c = search needs
+part-fill-end-2 : tie.Need-part-fill-end-2
+part-fill-end-2 c = search needs
 
-slice-aggregate-copy-2 : tie.Need-slice-aggregate-copy-2
-slice-aggregate-copy-2 c = search needs
+slice-aggregate-fill-2 : tie.Need-slice-aggregate-fill-2
+slice-aggregate-fill-2 c = search needs
 
-copy-requires-2 : tie.Need-copy-requires-2
-copy-requires-2 c κs = search needs
+fill-requires-2 : tie.Need-fill-requires-2
+fill-requires-2 c κs = search needs
 
 array-borrow-prefix-cmd : tie.Need-array-borrow-prefix-cmd
 array-borrow-prefix-cmd c = search needs
@@ -105,16 +105,16 @@ ranges-spec =
     returns-3
     unknown-requires-4
     returns-4
-    sub-copy
-    part-copy-start
-    part-copy-end
-    slice-aggregate-copy
-    copy-requires
-    sub-copy-2
-    part-copy-start-2
-    part-copy-end-2
-    slice-aggregate-copy-2
-    copy-requires-2
+    sub-fill
+    part-fill-start
+    part-fill-end
+    slice-aggregate-fill
+    fill-requires
+    sub-fill-2
+    part-fill-start-2
+    part-fill-end-2
+    slice-aggregate-fill-2
+    fill-requires-2
     array-borrow-prefix-cmd
     slice-aggregate-ranges-on
     array-borrow-prefix-area

@@ -1,12 +1,13 @@
 // One call for each record, by its operation: its name, its result, what it wrote.
-use crate::lines::bytes;
-use crate::lines::number;
-use crate::lines::result;
-use crate::lines::text;
 use crate::reading::half;
 use crate::reading::reserved;
-use crate::reading::word;
+use crate::replies::bytes;
+use crate::replies::result;
 use crate::stored;
+use edits::Answer;
+use lines::number;
+use lines::text;
+use lines::word;
 use table::Table;
 
 pub fn answer(t: Table, operation: u32, body: &[u8]) -> Table {
@@ -16,7 +17,7 @@ pub fn answer(t: Table, operation: u32, body: &[u8]) -> Table {
         3 => attach(t, body),
         4 => detach(t, body),
         5 => reach(t, body),
-        6 => alloc(t, body),
+        6 | 13 | 14 | 15 => changing(t, operation, body),
         7 => destroy(t, body),
         8 => allow(t, body),
         9 => ranges(t, body),
@@ -71,19 +72,52 @@ fn reach(t: Table, body: &[u8]) -> Table {
 }
 
 // The body is the command. It is changed, so it is copied.
-fn alloc(t: Table, body: &[u8]) -> Table {
+fn changing(t: Table, operation: u32, body: &[u8]) -> Table {
     let mut cmd = [0u8; 64];
     let n = body.len();
     if 64 < n {
         return unknown(t);
     }
-    copy(body, &mut cmd);
-    alloc_on(t, &mut cmd[..n])
+    fill(body, &mut cmd);
+    changing_on(t, operation, &mut cmd[..n])
 }
 
-fn alloc_on(t: Table, cmd: &mut [u8]) -> Table {
+fn changing_on(t: Table, operation: u32, cmd: &mut [u8]) -> Table {
+    match operation {
+        6 => alloc(t, cmd),
+        13 => map(t, cmd),
+        14 => copy(t, cmd),
+        15 => unmap(t, cmd),
+        _ => unknown(t),
+    }
+}
+
+fn alloc(t: Table, cmd: &mut [u8]) -> Table {
     let a = spacecalls::ioas_alloc(t, cmd);
     text(b"alloc");
+    replied(a, cmd)
+}
+
+fn map(t: Table, cmd: &mut [u8]) -> Table {
+    let a = mappingcalls::map(t, cmd);
+    text(b"map");
+    replied(a, cmd)
+}
+
+fn copy(t: Table, cmd: &mut [u8]) -> Table {
+    let a = mappingcalls::copy(t, cmd);
+    text(b"copy");
+    replied(a, cmd)
+}
+
+fn unmap(t: Table, cmd: &mut [u8]) -> Table {
+    let a = mappingcalls::unmap(t, cmd);
+    text(b"unmap");
+    replied(a, cmd)
+}
+
+// The result and the command after it.
+fn replied(a: Answer, cmd: &[u8]) -> Table {
     result(a.result);
     bytes(cmd);
     a.table
@@ -131,8 +165,8 @@ fn ranges(t: Table, body: &[u8]) -> Table {
     if 2048 < m {
         return unknown(t);
     }
-    copy(&body[8..end], &mut cmd);
-    copy(&body[end..], &mut area);
+    fill(&body[8..end], &mut cmd);
+    fill(&body[end..], &mut area);
     ranges_on(t, &mut cmd[..n], &mut area[..m]);
     t
 }
@@ -146,7 +180,7 @@ fn ranges_on(t: Table, cmd: &mut [u8], area: &mut [u8]) {
 }
 
 // The bytes that both have place for.
-fn copy(from: &[u8], to: &mut [u8]) {
+fn fill(from: &[u8], to: &mut [u8]) {
     let mut i: usize = 0;
     while i < to.len() {
         if from.len() <= i {

@@ -1,23 +1,10 @@
-// The parts of a line.
+// The parts of a line that only the calls have: results, bytes in brackets, and what is said of the table at its end.
 use libc::STDOUT_FILENO;
+use lines::hex;
+use lines::text;
+use lines::truth;
+use lines::wide;
 use table::Table;
-
-pub fn text(s: &[u8]) {
-    io::write_all(STDOUT_FILENO, s);
-}
-
-pub fn number(n: u64) {
-    text(b" ");
-    io::print_decimal(STDOUT_FILENO, n);
-}
-
-fn truth(b: bool) {
-    if b {
-        number(1);
-    } else {
-        number(0);
-    }
-}
 
 // A signed result, by its sign and its size.
 pub fn result(r: i32) {
@@ -47,24 +34,11 @@ fn is_size(n: u8, r: i32) -> bool {
     command::id_result(n) == r
 }
 
-fn wide(x: u8) -> u64 {
-    x as u64
-}
-
 // Bytes in brackets, so that none is seen too.
 pub fn bytes(s: &[u8]) {
     text(b" [");
     hex(s);
     text(b"]");
-}
-
-fn hex(s: &[u8]) {
-    let mut i: usize = 0;
-    while i < s.len() {
-        let x = s[i];
-        io::print_hex(STDOUT_FILENO, wide(x), 2);
-        i += 1;
-    }
 }
 
 // Whether the table is good, and the sums over all its numbers.

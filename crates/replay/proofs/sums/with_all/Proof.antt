@@ -1,27 +1,27 @@
--- A loop over the bytes.
+-- A loop over the numbers of a list.
 use borrow.Author.Needs.{needs}
 use Prim.Native.Nat.{_-_}
 use lib.ListN.{length}
-use Rattle.tablevectors.proofs.lines.hex.Statement.{statement}
-use Rattle.tablevectors.proofs.lines.hex.Tie as tie
+use Rattle.replay.proofs.sums.with_all.Statement.{statement}
+use Rattle.replay.proofs.sums.with_all.Tie as tie
 
 abbrev Inv-loop : tie.InvT-loop
-Inv-loop s i₀ i = Unit {0}
+Inv-loop xs sums₀ i₀ sums i = Unit {0}
 
 abbrev μ-loop : tie.MeasureT-loop
-μ-loop s i₀ i = length s - i
+μ-loop xs sums₀ i₀ sums i = length xs - i
 
 loop-holds : tie.Need-loop-holds Inv-loop μ-loop
 loop-holds c = search needs
 
+mul-x : tie.Need-mul-x Inv-loop μ-loop
+mul-x c = search needs
+
 shared-slice-read-x : tie.Need-shared-slice-read-x Inv-loop μ-loop
 shared-slice-read-x c = search needs
 
-wide-requires : tie.Need-wide-requires Inv-loop μ-loop
-wide-requires c κs = search needs
-
-print-hex-requires : tie.Need-print-hex-requires Inv-loop μ-loop
-print-hex-requires c κs = search needs
+with-requires : tie.Need-with-requires Inv-loop μ-loop
+with-requires c κs = search needs
 
 add-i : tie.Need-add-i Inv-loop μ-loop
 add-i c = search needs
@@ -35,16 +35,16 @@ loop-again c = search needs
 returns : tie.Need-returns Inv-loop μ-loop
 returns c = search needs
 
-pub hex-spec : {M : Type 1} → statement M
-hex-spec =
+pub with-all-spec : {M : Type 1} → statement M
+with-all-spec =
     tie.close
     (tie.spec
     Inv-loop
     μ-loop
     loop-holds
+    mul-x
     shared-slice-read-x
-    wide-requires
-    print-hex-requires
+    with-requires
     add-i
     loop-less
     loop-again

@@ -1,8 +1,8 @@
 -- A loop over the u8 numbers.
 use borrow.Author.Needs.{needs}
 use Prim.Native.Nat.{_-_, _≤_}
-use Rattle.tablevectors.proofs.lines.size_of.Statement.{statement}
-use Rattle.tablevectors.proofs.lines.size_of.Tie as tie
+use Rattle.replay.proofs.replies.size_of.Statement.{statement}
+use Rattle.replay.proofs.replies.size_of.Tie as tie
 
 abbrev Inv-loop : tie.InvT-loop
 Inv-loop r n₀ n = n ≤ 255
