@@ -37,7 +37,7 @@ fits-field x n h = omega arith
 -- ---- MAP: flags at 4, space at 8, length at 24, address at 32
 
 module _ (t : Table) (bytes : List ℕ) (ok : mapAnswer t bytes .result ≡ pos 0) where
-  map-accepted : Accepted t 0x3B85 bytes (mapDecided t bytes)
+  pub map-accepted : Accepted t 0x3B85 bytes (mapDecided t bytes)
   unfolding mapAnswer mapCall
   map-accepted = accepted t 0x3B85 bytes (mapDecided t bytes) ok
 
@@ -45,7 +45,7 @@ module _ (t : Table) (bytes : List ℕ) (ok : mapAnswer t bytes .result ≡ pos 
   unfolding mapDecided
   decided = map-landed (t .limit) (t .objects) (t .mappings) (field 4 bytes 4) (field 4 bytes 8) (field 4 bytes 12) (field 8 bytes 16) (field 8 bytes 24) (field 8 bytes 32) (map-accepted .errno)
 
-  map-written : field 8 (mapBytes t bytes) 32 ≡ mapDecided t bytes .value
+  pub map-written : field 8 (mapBytes t bytes) 32 ≡ mapDecided t bytes .value
   unfolding mapBytes mapCall
   map-written = reply-read t Map bytes (mapDecided t bytes) 32 map-accepted (omega arith) (fits-field (mapDecided t bytes .value) (field 8 bytes 24) (passes-false (mapDecided t bytes .value) (field 8 bytes 24) (decided .landed .ends)))
 
@@ -85,7 +85,7 @@ module _ (t : Table) (bytes : List ℕ) (gate : gateErrno t 0x3B85 bytes ≡ 0)
 -- ---- COPY: flags at 4, target at 8, source at 12, length at 16, target address at 24, source address at 32
 
 module _ (t : Table) (bytes : List ℕ) (ok : copyAnswer t bytes .result ≡ pos 0) where
-  copy-accepted : Accepted t 0x3B83 bytes (copyDecided t bytes)
+  pub copy-accepted : Accepted t 0x3B83 bytes (copyDecided t bytes)
   unfolding copyAnswer copyCall
   copy-accepted = accepted t 0x3B83 bytes (copyDecided t bytes) ok
 
@@ -93,7 +93,7 @@ module _ (t : Table) (bytes : List ℕ) (ok : copyAnswer t bytes .result ≡ pos
   unfolding copyDecided
   copy-decided = copy-landed (t .objects) (t .mappings) (field 4 bytes 4) (field 4 bytes 8) (field 4 bytes 12) (field 8 bytes 16) (field 8 bytes 24) (field 8 bytes 32) (copy-accepted .errno)
 
-  copy-written : field 8 (copyBytes t bytes) 24 ≡ copyDecided t bytes .value
+  pub copy-written : field 8 (copyBytes t bytes) 24 ≡ copyDecided t bytes .value
   unfolding copyBytes copyCall
   copy-written = reply-read t Copy bytes (copyDecided t bytes) 24 copy-accepted (omega arith) (fits-field (copyDecided t bytes .value) (field 8 bytes 16) (passes-false (copyDecided t bytes .value) (field 8 bytes 16) (copy-decided .landed .ends)))
 

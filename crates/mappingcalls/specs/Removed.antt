@@ -40,7 +40,7 @@ bytes-fit t g =
 -- ---- UNMAP: space at 4, address at 8, length at 16
 
 module _ (t : Table) (bytes : List ℕ) (ok : unmapAnswer t bytes .result ≡ pos 0) where
-  unmap-accepted : Accepted t 0x3B86 bytes (unmapDecided t bytes)
+  pub unmap-accepted : Accepted t 0x3B86 bytes (unmapDecided t bytes)
   unfolding unmapAnswer unmapCall
   unmap-accepted = accepted t 0x3B86 bytes (unmapDecided t bytes) ok
 
@@ -52,7 +52,7 @@ module _ (t : Table) (bytes : List ℕ) (ok : unmapAnswer t bytes .result ≡ po
   unfolding unmapDecided
   lost = unmap-told t (field 4 bytes 4) (field 8 bytes 8) (field 8 bytes 16) (unmap-accepted .errno)
 
-  unmap-written : field 8 (unmapBytes t bytes) 16 ≡ unmapDecided t bytes .value
+  pub unmap-written : field 8 (unmapBytes t bytes) 16 ≡ unmapDecided t bytes .value
   unfolding unmapBytes unmapCall
   unmap-written = reply-read t Unmap bytes (unmapDecided t bytes) 16 unmap-accepted (omega arith) (omega (arith, lost, bytes-fit t (good-sound t (gate-table t 0x3B86 bytes (unmap-accepted .gate)))))
 

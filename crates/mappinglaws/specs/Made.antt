@@ -113,7 +113,7 @@ module _ (os : List Object) (ms : List Mapping) (b flags s memory n a : ℕ) whe
 -- ---- COPY
 
 -- what is found of a list has what each element has
-find-each : {A : Type 0} (P : A → Type 0) (p : A → Bool) (xs : List A) (a : A) → Each P xs → find p xs ≡ some a → P a
+pub find-each : {A : Type 0} (P : A → Type 0) (p : A → Bool) (xs : List A) (a : A) → Each P xs → find p xs ≡ some a → P a
 unfolding find
 find-each P p [] a h e = let z : _≡_ {A = ℕ} 0 1 = cc in absurd (omega arith)
 find-each P p (x ∷ xs) a h e =
@@ -131,7 +131,7 @@ pub record SourceIs (os : List Object) (info : ℕ → Backing) (ms : List Mappi
   pub backed : any (backs (m .backing)) ms ≡ true
 
 module _ (os : List Object) (info : ℕ → Backing) (ms : List Mapping) (ok : Each (λ m. recordOk os m ≡ true) ms) (agree : Agree info ms) (source y n : ℕ) (sp : spaceAt os source ≡ true) where
-  source-of : (m : Mapping) → sourceOf ms source y n ≡ some m → SourceIs os info ms source y n m
+  pub source-of : (m : Mapping) → sourceOf ms source y n ≡ some m → SourceIs os info ms source y n m
   unfolding sourceOf isSource ofSpace used
   source-of m e =
       let t = find-some (isSource source y n) ms m e in
