@@ -176,7 +176,7 @@ unfolding any used
 none-used b zero = refl
 none-used b (suc n) = none-used b n
 
-fresh-rel : (limit : ℕ) → Rel empty (freshTable limit)
+pub fresh-rel : (limit : ℕ) → Rel empty (freshTable limit)
 unfolding empty freshTable weigh had used
 fresh-rel limit = record {
   who = λ b. 0;
@@ -197,15 +197,20 @@ fresh-rel limit = record {
 
 -- ---- the sequence
 
-run-told : (cs : List Call) (t : Table) (l : Ledger) → good t ≡ true → Rel l t → Told (ledgerOf (trace cs t) l) (after cs t)
+pub run-good : (cs : List Call) (t : Table) → good t ≡ true → good (after cs t) ≡ true
+unfolding after
+run-good [] t g = g
+run-good (c ∷ cs) t g = run-good cs (tableAfter c t) (step-good c t g)
+
+pub run-rel : (cs : List Call) (t : Table) (l : Ledger) → good t ≡ true → Rel l t → Rel (ledgerOf (trace cs t) l) (after cs t)
 unfolding ledgerOf trace after
-run-told [] t l g q = told l t (good-sound t g) q
-run-told (c ∷ cs) t l g q = run-told cs (tableAfter c t) (feed (record { call = c; reply = replyOf c t }) l) (step-good c t g) (step-rel c l t g q)
+run-rel [] t l g q = q
+run-rel (c ∷ cs) t l g q = run-rel cs (tableAfter c t) (feed (record { call = c; reply = replyOf c t }) l) (step-good c t g) (step-rel c l t g q)
 
 -- THE THEOREM: after any sequence of calls on a fresh table, the ledger, fed by the calls and their answers alone, tells the table's addresses, bytes and charge; and the
 -- charge is within the limit that the table was made with
 pub demand-3 : (limit : ℕ) → limit ≤ 2 ^ 36 → (cs : List Call) → Told (ledgerOf (trace cs (freshTable limit)) empty) (after cs (freshTable limit))
-demand-3 limit h cs = run-told cs (freshTable limit) empty (fresh-good limit h) (fresh-rel limit)
+demand-3 limit h cs = let g = fresh-good limit h in told _ _ (good-sound _ (run-good cs (freshTable limit) g)) (run-rel cs (freshTable limit) empty g (fresh-rel limit))
 
 -- ---- the limit stays what it was
 

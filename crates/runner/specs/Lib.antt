@@ -1,0 +1,2 @@
+-- What the bench runner promises.
+pub mod Shown
