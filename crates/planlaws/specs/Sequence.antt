@@ -1,15 +1,12 @@
 -- A plan as a sequence of calls on a fresh table, and demand 3 of the table that its run leaves.
 use Prim.Native.Nat.{ℕ, zero, suc, _+_, _≤_, _^_}
 use mathlib.Core.Path.{_≡_, refl, sym, ap, _∙_}
-use mathlib.Core.Bool.{Bool, true, false, not, _&&_}
-use mathlib.Core.List.{List, [], _∷_, _++_, map}
-use native.Mathlib.Omega.{arith}
+use mathlib.Core.Bool.{Bool, true, false}
+use mathlib.Core.List.{List, [], _∷_, _++_, map, append-assoc}
 use lib.Dec.{ltb}
-use lib.IntN.{ℤ, pos, negsuc}
 use lib.ListN.{replicate}
-use lib.Signed.{ltZ}
 use borrow.Author.Tests.{ltb-false}
-use Rattle.lists.specs.Tests.{by-test, contrary, and-right}
+use Rattle.lists.specs.Tests.{by-test, contrary}
 use Rattle.command.specs.Results.{result}
 use Rattle.table.specs.declared.Table.{Table}
 use Rattle.table.specs.Records.{freshTable}
@@ -17,9 +14,7 @@ use Rattle.table.specs.Good.{good}
 use Rattle.table.specs.Sound.{good-sound}
 use Rattle.table.specs.Fresh.{fresh-good}
 use Rattle.table.specs.Charge.{charge}
-use Rattle.edits.specs.declared.Answer.{Answer}
 use Rattle.edits.specs.Answers.{freshAnswer}
-use Rattle.hostcalls.specs.Calls.{bindCall, attachCall}
 use Rattle.iommufd.specs.Door.{callDone}
 use Rattle.history.specs.Calls.{Call, Event, replyOf, tableAfter, after, trace}
 use Rattle.history.specs.Ledger.{Ledger, empty, feed, ledgerOf, ledgerCharge}
@@ -27,8 +22,7 @@ use Rattle.history.specs.Rel.{Rel}
 use Rattle.history.specs.Told.{Told, told}
 use Rattle.history.specs.History.{step-rel, step-good, fresh-rel, run-good, run-rel, demand-3}
 use Rattle.plans.specs.declared.Setup.{Setup}
-use Rattle.plans.specs.declared.Ready.{Ready}
-use Rattle.plans.specs.Plan.{Device, Pair, Order, Plan, planOf, whole}
+use Rattle.plans.specs.Plan.{Device, Pair, Order, Plan}
 use Rattle.plans.specs.Setting.{setupBy, goOn, onward, allocBytes, withSpace, withDevice, withPair, withSpaces, withDevices, withPairs, setUp}
 use Rattle.plans.specs.Running.{Line, answerTo, lineBy, linesFrom, linesOf}
 
@@ -105,10 +99,6 @@ pairs-set (p ∷ ps) t = set-onward (withPair p t) (withPairs ps) (pairCall p �
 fresh-set : (limit : ℕ) → Set (setupBy (freshAnswer limit)) [] (freshTable limit)
 unfolding setupBy freshAnswer after
 fresh-set limit = record { table = λ r. refl }
-
-append-assoc : (xs ys zs : List Call) → (xs ++ ys) ++ zs ≡ xs ++ (ys ++ zs)
-append-assoc [] ys zs = refl
-append-assoc (x ∷ xs) ys zs = ap (λ (l : List Call). x ∷ l) (append-assoc xs ys zs)
 
 -- the whole setup
 pub setup-set : (p : Plan) → Set (setUp p) (setupCalls p) (freshTable (p .limit))

@@ -1,6 +1,6 @@
 -- What the bench runner promises of a plan.
 use mathlib.Core.Path.{_≡_, sym, ap, _∙_}
-use mathlib.Core.Bool.{Bool, true, false, not, _&&_}
+use mathlib.Core.Bool.{true, false, not}
 use mathlib.Core.List.{List, map}
 use Prim.Native.Nat.{ℕ, _≤_, min}
 use native.Mathlib.Omega.{arith}
@@ -15,12 +15,12 @@ use Rattle.history.specs.Told.{Told}
 use Rattle.plans.specs.declared.Outcome.{Outcome}
 use Rattle.plans.specs.Plan.{Plan, planOf, whole}
 use Rattle.plans.specs.Setting.{setUp}
-use Rattle.plans.specs.Running.{Line, requestOf, resultOf, chargeOf, isReady, linesOf, shownIf, shown}
-use Rattle.planlaws.specs.Sequence.{orderCall, setupCalls, planCalls, linesTold, plan-after, plan-told, lines-told}
+use Rattle.plans.specs.Running.{Line, requestOf, resultOf, chargeOf, isReady, linesOf, shown}
+use Rattle.planlaws.specs.Sequence.{orderCall, setupCalls, planCalls, tableOf, linesTold, plan-told, lines-told}
 
--- demand 3 of a plan: the ledger of its calls and their answers tells the table that they leave, and each of its lines
+-- demand 3 of a plan: the ledger of its calls and their answers tells the table that its run leaves, and each of its lines
 pub record PlanTold (p : Plan) : Type 0 where
-  pub table : Told (ledgerOf (trace (planCalls p) (freshTable (p .limit))) empty) (after (planCalls p) (freshTable (p .limit)))
+  pub table : Told (ledgerOf (trace (planCalls p) (freshTable (p .limit))) empty) (tableOf (setUp p .table) (p .commands))
   pub lines : linesOf p ≡ linesTold 0 (ledgerOf (trace (setupCalls p) (freshTable (p .limit))) empty) (trace (map orderCall (p .commands)) (after (setupCalls p) (freshTable (p .limit))))
 
 -- a plan is shown exactly if it is whole and its setup is not refused; the numbers given are those of its lines; demand 3 holds of it
@@ -38,7 +38,7 @@ ready-setup bs e = not-true (setUp (planOf bs) .refused) (and-right (whole bs) (
 
 -- a plan that is ready is told
 pub ready-told : (bs : List ℕ) → isReady bs ≡ true → PlanTold (planOf bs)
-ready-told bs e = let r = ready-setup bs e in record { table = rw (← plan-after (planOf bs) r) (plan-told (planOf bs) r); lines = lines-told (planOf bs) r }
+ready-told bs e = let r = ready-setup bs e in record { table = plan-told (planOf bs) r; lines = lines-told (planOf bs) r }
 
 -- what the run of a plan gives is what is promised
 pub shows-of : (bs : List ℕ) (o : Outcome) (us : List ℕ) (vs : List ℤ) (ws : List ℕ)
