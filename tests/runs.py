@@ -159,34 +159,35 @@ def lowest(space, length, address):
     return address // a > 5000 or not any(candidate(table, space, x, length) for x in range(0, address, a))
 
 
-def map_(space=1, length=4096, at=None, memory=0, rights=READ, flags=None, field=0, cmd=None, want=None, gives=None):
-    """at: a fixed address. gives: the address written."""
-    flags = (at is not None) + 2 * rights if flags is None else flags
-    at = 0xCCCCCCCCCCCCCCCC if at is None else at
-    cmd = struct.pack('<IIIIQQQ', 40, flags, space, field, memory, length, at) if cmd is None else cmd
-    errno, given = outcome(model_map, cmd)
+def mapped(name, model, operation, cmd, length_at, address_at, want, gives):
+    """A MAP or a COPY: its length and its address at these offsets."""
+    errno, given = outcome(model, cmd)
     after, reply = given or (table, cmd)
     if given:
-        checks[model_map, 'fixed' if u32(cmd, 4) % 2 else 'automatic', 0] += 1
-        assert u32(cmd, 4) % 2 or lowest(u32(cmd, 8), u64(cmd, 24), u64(reply, 32))
-    result = told('map', errno, 0, want)
-    assert gives is None or given and gives == u64(reply, 32), 'map: %#x, wanted %#x' % (u64(reply, 32), gives)
-    record(13, cmd, ['map', result, lent(reply)], after)
+        checks[model, 'fixed' if u32(cmd, 4) % 2 else 'automatic', 0] += 1
+        assert u32(cmd, 4) % 2 or lowest(u32(cmd, 8), u64(cmd, length_at), u64(reply, address_at))
+    result = told(name, errno, 0, want)
+    assert gives is None or given and gives == u64(reply, address_at), '%s: %#x, wanted %#x' % (name, u64(reply, address_at), gives)
+    record(operation, cmd, [name, result, lent(reply)], after)
+
+
+def asked(at, rights, flags):
+    """Flags and address field: `at` is a fixed address."""
+    return ((at is not None) + 2 * rights if flags is None else flags), 0xCCCCCCCCCCCCCCCC if at is None else at
+
+
+def map_(space=1, length=4096, at=None, memory=0, rights=READ, flags=None, field=0, cmd=None, want=None, gives=None):
+    """at: a fixed address. gives: the address written."""
+    flags, at = asked(at, rights, flags)
+    cmd = struct.pack('<IIIIQQQ', 40, flags, space, field, memory, length, at) if cmd is None else cmd
+    mapped('map', model_map, 13, cmd, 24, 32, want, gives)
 
 
 def copy(target=1, source=1, length=4096, origin=0, at=None, rights=READ, flags=None, cmd=None, want=None, gives=None):
     """origin: the address in the source; at and gives as for a MAP, in the target."""
-    flags = (at is not None) + 2 * rights if flags is None else flags
-    at = 0xCCCCCCCCCCCCCCCC if at is None else at
+    flags, at = asked(at, rights, flags)
     cmd = struct.pack('<IIIIQQQ', 40, flags, target, source, length, at, origin) if cmd is None else cmd
-    errno, given = outcome(model_copy, cmd)
-    after, reply = given or (table, cmd)
-    if given:
-        checks[model_copy, 'fixed' if u32(cmd, 4) % 2 else 'automatic', 0] += 1
-        assert u32(cmd, 4) % 2 or lowest(u32(cmd, 8), u64(cmd, 16), u64(reply, 24))
-    result = told('copy', errno, 0, want)
-    assert gives is None or given and gives == u64(reply, 24), 'copy: %#x, wanted %#x' % (u64(reply, 24), gives)
-    record(14, cmd, ['copy', result, lent(reply)], after)
+    mapped('copy', model_copy, 14, cmd, 16, 24, want, gives)
 
 
 def unmap(space=1, address=0, length=TOP, cmd=None, want=None, gives=None):

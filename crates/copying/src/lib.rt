@@ -1,19 +1,24 @@
 // What COPY decides over a good table: the numbers of the command, the source, then the place as in MAP, and no charge.
 ghost use mathlib.Core.Bool.{true};
+ghost use mathlib.Core.List.{List};
 ghost use mathlib.Core.Path.{_≡_};
+ghost use Prim.Native.Nat.{ℕ};
 ghost use Rattle.lists.specs.Each.{Each};
 ghost use Rattle.lists.specs.Checks.{first};
+ghost use Rattle.table.specs.declared.Object.{Object};
+ghost use Rattle.table.specs.Records.{spaceAt};
 ghost use Rattle.table.specs.Checked.{recordOk};
+ghost use Rattle.digests.specs.Digest.{Seen};
 ghost use Rattle.copying.specs.Copy.{isMissing, sourceMapping, copyNumberChecks, sourceChecks, recordChecks, copyOf, copyEdit};
+use digests::Digest;
 use edits::Edit;
 use places::Target;
 use rangelists::Found;
 use surveys::Source;
 use table::Mapping;
-use table::Object;
 
-fn copy_number_errno(os: [Object; 32], t: Target, source: u32, from: u64) -> u8
-    ensures { λ r. ⌜ r ≡ first (copyNumberChecks os (t .flags) (t .space) source (t .length) (t .address) from) 0 ⌝ }
+fn copy_number_errno(target: bool, known: bool, t: Target, from: u64) -> u8
+    ensures { λ r. ⌜ ((os : List Object) (source : ℕ) → target ≡ spaceAt os (t .space) → known ≡ spaceAt os source → r ≡ first (copyNumberChecks os (t .flags) (t .space) source (t .length) (t .address) from) 0) ⌝ }
 {
     let flags = t.flags;
     let n = t.length;
@@ -22,8 +27,6 @@ fn copy_number_errno(os: [Object; 32], t: Target, source: u32, from: u64) -> u8
     let wrong = mappings::is_wrong_length(n);
     let past = ranges::passes_max(from, n);
     let fixed = mappings::fixed_passes(flags, t.address, n);
-    let target = lookups::space_at(os, t.space);
-    let known = lookups::space_at(os, source);
     command::refuse_if(
         unknown,
         95,
@@ -106,11 +109,16 @@ fn copied(m: Mapping, t: Target, address: u64) -> Mapping
     }
 }
 
-pub fn decide_copy(os: [Object; 32], ms: [Mapping; 128], t: Target, source: u32, from: u64) -> Edit
-    requires { ⌜ Each (λ m. recordOk os m ≡ true) ms ⌝ }
-    ensures { λ e. ⌜ e ≡ copyEdit os ms (t .flags) (t .space) source (t .length) (t .address) from ⌝ }
+// The digest is that of the objects for the target's space and the source's.
+pub fn decide_copy(d: Digest, ms: [Mapping; 128], t: Target, source: u32, from: u64) -> Edit
+    requires { ⌜ ((os : List Object) × Each (λ m. recordOk os m ≡ true) ms) ⌝ }
+    ensures { λ e. ⌜ ((os : List Object) → Seen os (t .space) source d → e ≡ copyEdit os ms (t .flags) (t .space) source (t .length) (t .address) from) ⌝ }
 {
-    let wrong = copy_number_errno(os, t, source, from);
+    let to = d.first;
+    let k = to.kind;
+    let of = d.second;
+    let l = of.kind;
+    let wrong = copy_number_errno(table::is_space(k), table::is_space(l), t, from);
     if wrong != 0 {
         return edits::refusal(wrong);
     }
@@ -119,8 +127,9 @@ pub fn decide_copy(os: [Object; 32], ms: [Mapping; 128], t: Target, source: u32,
     if denied != 0 {
         return edits::refusal(denied);
     }
-    let v = surveys::survey_of(ms, t.space, ranges::span_of(t.address, t.length));
-    let p = places::place_for(os, ms, t, v.touched);
+    let r = ranges::span_of(t.address, t.length);
+    let v = surveys::survey_of(ms, t.space, r);
+    let p = mappings::place_in(d, ms, t, v.touched);
     if p.errno != 0 {
         return edits::refusal(p.errno);
     }

@@ -1,25 +1,27 @@
 -- What each return gives, in the words of the definitions of attach and detach.
-use Prim.Native.Nat.{ℕ, _-_, _≤_}
-use mathlib.Core.Path.{_≡_, sym, ap, _∙_}
-use mathlib.Core.Bool.{Bool, false, not}
+use Prim.Native.Nat.{ℕ, _-_, max}
+use mathlib.Core.Path.{_≡_, ap, _∙_}
+use mathlib.Core.Bool.{Bool, false, not, _||_}
 use mathlib.Core.List.{List}
-use native.Mathlib.Omega.{arith}
-use borrow.Author.Tests.{eq-eqb, ne-eqb, not-false}
+use borrow.Author.Tests.{eq-eqb, ne-eqb}
 use Rattle.lists.specs.Search.{any}
 use Rattle.lists.specs.Checks.{first}
 use Rattle.ranges.specs.declared.Range.{Range}
 use Rattle.ranges.specs.Ranges.{share, span}
 use Rattle.alignment.specs.Multiples.{fits}
+use Rattle.alignment.specs.Pages.{smallestPage}
 use Rattle.rangelists.specs.declared.Found.{Found}
-use Rattle.rangelists.specs.Listed.{isFound, firstTouched, firstTouched-any}
+use Rattle.rangelists.specs.Listed.{allowed, isFound, firstTouched, firstTouched-any}
 use Rattle.table.specs.declared.Object.{Object}
 use Rattle.table.specs.declared.Mapping.{Mapping}
-use Rattle.table.specs.Records.{objectAt, isDevice, ofSpace, extent}
+use Rattle.table.specs.Records.{objectAt, spaceAt, isSpace, ofSpace, extent}
+use Rattle.table.specs.Spaces.{alignment}
+use Rattle.table.specs.Good.{listsTouch}
 use Rattle.edits.specs.declared.Edit.{Edit}
 use Rattle.edits.specs.declared.Change.the-variants.{Put}
-use Rattle.edits.specs.Edits.{accept}
-use Rattle.lookups.specs.Settled.{first-silent, device-id, settle-taken}
-use Rattle.devices.specs.Attach.{blockedBy, misfits, attachedObject, looseObject, attachChecks, attachEdit, detachChecks, detachEdit}
+use Rattle.edits.specs.Edits.{accept, refuse}
+use Rattle.lookups.specs.Settled.{settle-refused, settle-taken}
+use Rattle.devices.specs.Attach.{blockedBy, misfits, alignmentWith, attachedObject, looseObject, attachChecks, attachEdit, detachChecks, detachEdit}
 
 module _ (s : ℕ) (m : Mapping) where
   pub blocked-other : (rs : List Range) → (m .space ≡ s → ⊥) → false ≡ blockedBy s rs m
@@ -38,28 +40,36 @@ module _ (s : ℕ) (m : Mapping) where
   unfolding misfits ofSpace
   misfit-here a b h e = rw (eq-eqb (m .space) s h) (ap (λ (x : Bool). not x) e)
 
--- a call that no check refused has the id of a device
+-- the checks of attach, by what is known of the space: h is its object and a its alignment
+module _ (os : List Object) (s a : ℕ) (h : Object) (eh : h ≡ objectAt os s) (ea : a ≡ alignment os s) where
+  pub attach-home : (b : Bool) → b ≡ isSpace (h .kind) → not b ≡ not (spaceAt os s)
+  unfolding spaceAt
+  attach-home b e = rw (e, eh)
+
+  pub attach-blocked : (b m l : Bool) (rs : List Range) (ms : List Mapping) → m ≡ any (blockedBy s rs) ms → l ≡ listsTouch rs (allowed (h .allow)) → b ≡ (m || l)
+      → b ≡ (any (blockedBy s rs) ms || listsTouch rs (allowed (objectAt os s .allow)))
+  attach-blocked b m l rs ms em el eb = eb ∙ rw (em, el, eh)
+
+  pub attach-misfit : (b : Bool) (p n : ℕ) (o : Object) (ms : List Mapping) → p ≡ smallestPage (o .bitmap) → n ≡ max p a → b ≡ any (misfits s n) ms
+      → b ≡ any (misfits s (alignmentWith os s o)) ms
+  unfolding alignmentWith
+  attach-misfit b p n o ms ep en eb = eb ∙ rw (en, ep, ea)
+
+-- a refusal by the checks, or the device with its attachment changed
 module _ (os : List Object) (d : ℕ) (o : Object) (e : o ≡ objectAt os d) where
-  device-place : not (isDevice (o .kind)) ≡ false → 1 ≤ d
-  device-place t = device-id os d (ap (λ (x : Object). isDevice (x .kind)) (sym e) ∙ not-false (isDevice (o .kind)) t)
-
-  pub attach-id : (ms : List Mapping) (s n : ℕ) → n ≡ first (attachChecks os ms o s) 0 → n ≡ 0 → 1 ≤ d
-  unfolding attachChecks
-  attach-id ms s n h z = device-place (first-silent _ 2 _ (λ k. omega (arith, k)) (sym h ∙ z))
-
-  pub detach-id : (n : ℕ) → n ≡ first (detachChecks o) 0 → n ≡ 0 → 1 ≤ d
-  unfolding detachChecks
-  detach-id n h z = device-place (first-silent _ 2 _ (λ k. omega (arith, k)) (sym h ∙ z))
-
-  pub attach-taken : (ms : List Mapping) (s n : ℕ) (o′ : Object) (r : Edit) → n ≡ first (attachChecks os ms o s) 0 → n ≡ 0
-      → o′ ≡ attachedObject o s → r ≡ accept 0 (Put (d - 1)) o′ → r ≡ attachEdit os ms d s
+  pub attach-refused : (ms : List Mapping) (s n : ℕ) (r : Edit) → n ≡ first (attachChecks os ms o s) 0 → (n ≡ 0 → ⊥) → r ≡ refuse n → r ≡ attachEdit os ms d s
   unfolding attachEdit
-  attach-taken ms s n o′ r h z p q =
-      settle-taken n (first (attachChecks os ms (objectAt os d) s) 0) r (accept 0 (Put (d - 1)) (attachedObject (objectAt os d) s))
-      (h ∙ ap (λ (x : Object). first (attachChecks os ms x s) 0) e) z (q ∙ ap (accept 0 (Put (d - 1))) (p ∙ ap (λ (x : Object). attachedObject x s) e))
+  attach-refused ms s n r h z q = settle-refused n _ r _ (h ∙ ap (λ (x : Object). first (attachChecks os ms x s) 0) e) z q
 
-  pub detach-taken : (n : ℕ) (o′ : Object) (r : Edit) → n ≡ first (detachChecks o) 0 → n ≡ 0 → o′ ≡ looseObject o → r ≡ accept 0 (Put (d - 1)) o′ → r ≡ detachEdit os d
+  pub attach-taken : (ms : List Mapping) (s n i : ℕ) (o′ : Object) (r : Edit) → n ≡ first (attachChecks os ms o s) 0 → n ≡ 0
+      → i ≡ d - 1 → o′ ≡ attachedObject o s → r ≡ accept 0 (Put i) o′ → r ≡ attachEdit os ms d s
+  unfolding attachEdit
+  attach-taken ms s n i o′ r h z k p q = settle-taken n _ r _ (h ∙ ap (λ (x : Object). first (attachChecks os ms x s) 0) e) z (q ∙ rw (p, k, e))
+
+  pub detach-refused : (n : ℕ) (r : Edit) → n ≡ first (detachChecks o) 0 → (n ≡ 0 → ⊥) → r ≡ refuse n → r ≡ detachEdit os d
   unfolding detachEdit
-  detach-taken n o′ r h z p q =
-      settle-taken n (first (detachChecks (objectAt os d)) 0) r (accept 0 (Put (d - 1)) (looseObject (objectAt os d)))
-      (h ∙ ap (λ (x : Object). first (detachChecks x) 0) e) z (q ∙ ap (accept 0 (Put (d - 1))) (p ∙ ap (λ (x : Object). looseObject x) e))
+  detach-refused n r h z q = settle-refused n _ r _ (h ∙ ap (λ (x : Object). first (detachChecks x) 0) e) z q
+
+  pub detach-taken : (n i : ℕ) (o′ : Object) (r : Edit) → n ≡ first (detachChecks o) 0 → n ≡ 0 → i ≡ d - 1 → o′ ≡ looseObject o → r ≡ accept 0 (Put i) o′ → r ≡ detachEdit os d
+  unfolding detachEdit
+  detach-taken n i o′ r h z k p q = settle-taken n _ r _ (h ∙ ap (λ (x : Object). first (detachChecks x) 0) e) z (q ∙ rw (p, k, e))

@@ -1,25 +1,29 @@
 // What the host calls decide over a good table.
 ghost use mathlib.Core.Bool.{true};
+ghost use mathlib.Core.List.{List};
 ghost use mathlib.Core.Option.{some};
 ghost use mathlib.Core.Path.{_≡_};
-ghost use Prim.Native.Nat.{_+_, _-_, _≤_};
+ghost use Prim.Native.Nat.{ℕ, _+_, _-_, _≤_};
 ghost use lib.Dec.{ltb};
+ghost use lib.ListN.{length};
 ghost use Rattle.lists.specs.Tests.{onlyIf};
 ghost use Rattle.lists.specs.Search.{any};
 ghost use Rattle.lists.specs.Each.{Each};
 ghost use Rattle.lists.specs.Checks.{first};
-ghost use Rattle.rangelists.specs.Listed.{reserved, allowed};
+ghost use Rattle.rangelists.specs.Listed.{found, reserved};
 ghost use Rattle.ranges.specs.Ranges.{U64MAX};
 ghost use Rattle.table.specs.Records.{objectAt};
-ghost use Rattle.table.specs.Good.{listsTouch};
+ghost use Rattle.table.specs.Spaces.{alignment};
+ghost use Rattle.table.specs.Charge.{freeRecord};
 ghost use Rattle.table.specs.Checked.{recordOk};
 ghost use Rattle.devices.specs.Bind.{onlyFirst, trimmed, newDevice, bindChecks, bindEdit};
-ghost use Rattle.devices.specs.Attach.{blockedBy, misfits, alignmentWith, attachedObject, looseObject, attachChecks, attachEdit, detachChecks, detachEdit};
+ghost use Rattle.devices.specs.Attach.{blockedBy, misfits, attachedObject, looseObject, attachChecks, attachEdit, detachChecks, detachEdit};
 ghost use Rattle.devices.specs.Reach.{around, mayDo, reachIn, reachChecks, reachOf};
 ghost use Rattle.devices.specs.Held.{holdsAll, held};
 use edits::Change;
 use edits::Edit;
 use rangelists::Allowed;
+use rangelists::Found;
 use rangelists::Reserved;
 use ranges::Range;
 use table::Attachment;
@@ -107,15 +111,16 @@ fn new_device(bitmap: u64, l: Reserved) -> Object
     }
 }
 
-pub fn decide_bind(os: [Object; 32], bitmap: u64, l: Reserved) -> Edit
-    ensures { λ e. ⌜ e ≡ bindEdit os bitmap l ⌝ }
+// free is the lowest free record.
+pub fn decide_bind(free: Found, bitmap: u64, l: Reserved) -> Edit
+    ensures { λ e. ⌜ ((os : List Object) → length os ≡ 32 → free ≡ found (freeRecord os) → e ≡ bindEdit os bitmap l) ⌝ }
 {
     let errno = bind_errno(bitmap, l);
     if errno != 0 {
         return edits::refusal(errno);
     }
     let n = new_device(bitmap, l);
-    lookups::place_new(os, n)
+    lookups::place_new(free, n)
 }
 
 // ---- attach and detach
@@ -169,37 +174,23 @@ fn some_misfit(ms: [Mapping; 128], s: u32, a: u64) -> bool
     false
 }
 
-// The alignment of space s with the device o.
-fn alignment_with(os: [Object; 32], s: u32, o: Object) -> u64
-    ensures { λ a. ⌜ a ≡ alignmentWith os s o ⌝ }
-{
-    let page = alignment::smallest_page(o.bitmap);
-    let old = lookups::alignment_of(os, s);
-    ranges::higher(page, old)
-}
-
-// Whether a reserved range of the device touches the allow list of space s.
-fn list_blocked(os: [Object; 32], s: u32, l: Reserved) -> bool
-    ensures { λ b. ⌜ b ≡ listsTouch (reserved l) (allowed (objectAt os s .allow)) ⌝ }
-{
-    let h = lookups::object_at(os, s);
-    let allow = h.allow;
-    table::lists_touch(l, allow)
-}
-
-fn attach_errno(os: [Object; 32], ms: [Mapping; 128], o: Object, s: u32) -> u8
-    ensures { λ r. ⌜ r ≡ first (attachChecks os ms o s) 0 ⌝ }
+// o is the object to attach, h the object of id s, a the alignment of s.
+fn attach_errno(o: Object, h: Object, a: u64, ms: [Mapping; 128], s: u32) -> u8
+    ensures { λ r. ⌜ ((os : List Object) → h ≡ objectAt os s → a ≡ alignment os s → r ≡ first (attachChecks os ms o s) 0) ⌝ }
 {
     let k = o.kind;
     let l = o.reserved;
+    let home = h.kind;
+    let allow = h.allow;
     let device = table::is_device(k);
     let attached = table::is_attached(k);
-    let space = lookups::space_at(os, s);
+    let space = table::is_space(home);
     let mapped = touches_mapping(ms, s, l);
-    let listed = list_blocked(os, s, l);
+    let listed = table::lists_touch(l, allow);
     let blocked = command::either(mapped, listed);
-    let a = alignment_with(os, s, o);
-    let misaligned = some_misfit(ms, s, a);
+    let page = alignment::smallest_page(o.bitmap);
+    let higher = ranges::higher(page, a);
+    let misaligned = some_misfit(ms, s, higher);
     command::refuse_if(
         !device,
         2,
@@ -228,16 +219,23 @@ fn attached_object(o: Object, s: u32) -> Object
     }
 }
 
-pub fn decide_attach(os: [Object; 32], ms: [Mapping; 128], d: u32, s: u32) -> Edit
-    ensures { λ e. ⌜ e ≡ attachEdit os ms d s ⌝ }
+// The place of an id: 0 for an id that no record has.
+fn place_of(id: u32) -> usize
+    ensures { λ i. ⌜ i ≡ id - 1 ⌝ }
 {
-    let o = lookups::object_at(os, d);
-    let errno = attach_errno(os, ms, o, s);
+    if id == 0 { 0 } else { (id - 1) as usize }
+}
+
+// o and h are the objects of ids d and s, a the alignment of s.
+pub fn decide_attach(o: Object, h: Object, a: u64, ms: [Mapping; 128], d: u32, s: u32) -> Edit
+    ensures { λ e. ⌜ ((os : List Object) → o ≡ objectAt os d → h ≡ objectAt os s → a ≡ alignment os s → e ≡ attachEdit os ms d s) ⌝ }
+{
+    let errno = attach_errno(o, h, a, ms, s);
     if errno != 0 {
         return edits::refusal(errno);
     }
     let n = attached_object(o, s);
-    edits::acceptance(0, Change::Put((d - 1) as usize), n)
+    edits::acceptance(0, Change::Put(place_of(d)), n)
 }
 
 fn detach_errno(o: Object) -> u8
@@ -262,16 +260,16 @@ fn loose_object(o: Object) -> Object
     }
 }
 
-pub fn decide_detach(os: [Object; 32], d: u32) -> Edit
-    ensures { λ e. ⌜ e ≡ detachEdit os d ⌝ }
+// o is the object of id d.
+pub fn decide_detach(o: Object, d: u32) -> Edit
+    ensures { λ e. ⌜ ((os : List Object) → o ≡ objectAt os d → e ≡ detachEdit os d) ⌝ }
 {
-    let o = lookups::object_at(os, d);
     let errno = detach_errno(o);
     if errno != 0 {
         return edits::refusal(errno);
     }
     let n = loose_object(o);
-    edits::acceptance(0, Change::Put((d - 1) as usize), n)
+    edits::acceptance(0, Change::Put(place_of(d)), n)
 }
 
 // ---- reach
@@ -346,11 +344,10 @@ fn reach_errno(k: Kind, a: u64, n: u64) -> u8
 }
 
 // The records are those of a good table: so the address in memory is below 2^64.
-pub fn reach_of(os: [Object; 32], ms: [Mapping; 128], d: u32, a: u64, n: u64, write: bool) -> Reach
-    requires { ⌜ Each (λ m. recordOk os m ≡ true) ms ⌝ }
-    ensures { λ r. ⌜ r ≡ reachOf os ms d a n write ⌝ }
+pub fn reach_of(o: Object, ms: [Mapping; 128], a: u64, n: u64, write: bool) -> Reach
+    requires { ⌜ ((os : List Object) × Each (λ m. recordOk os m ≡ true) ms) ⌝ }
+    ensures { λ r. ⌜ ((os : List Object) (d : ℕ) → o ≡ objectAt os d → r ≡ reachOf os ms d a n write) ⌝ }
 {
-    let o = lookups::object_at(os, d);
     let k = o.kind;
     let errno = reach_errno(k, a, n);
     if errno != 0 {

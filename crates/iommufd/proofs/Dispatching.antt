@@ -1,39 +1,225 @@
--- The row of the request leads to a command, and the command to what it leaves.
-use Prim.Native.Nat.{ℕ}
+-- What each return of the dispatcher gives: a refusal before the command's own work, or what its arm decided.
+use Prim.Native.Nat.{ℕ, zero, suc, _≤_}
 use mathlib.Core.Path.{_≡_, refl, sym, ap, _∙_}
+use mathlib.Core.Bool.{Bool, true, false, cond}
 use mathlib.Core.List.{List}
-use lib.IntN.{ℤ}
+use native.Mathlib.Omega.{arith}
+use lib.Dec.{ltb}
+use lib.ListN.{length}
+use borrow.Author.Tests.{ne-eqb, le-ltb}
+use Rattle.lists.specs.Search.{any}
+use Rattle.rangelists.specs.Listed.{found}
+use Rattle.wire.specs.Fields.{field}
 use Rattle.command.specs.declared.Command.{Command}
-use Rattle.command.specs.declared.Command.the-variants.{IovaRanges}
+use Rattle.command.specs.declared.Command.the-variants.{Destroy, IoasAlloc, AllowIovas, Copy, IovaRanges, Map, Unmap}
 use Rattle.command.specs.declared.Row.{Row}
 use Rattle.command.specs.declared.Row.the-variants.{Unlisted, Listed}
-use Rattle.command.specs.Requests.{lookup}
+use Rattle.command.specs.declared.Opening.{Opening}
+use Rattle.command.specs.declared.Opening.the-variants.{UnknownRequest, NoSizeField, SizeTooSmall, SizePastBytes, TailNotZero, Open}
+use Rattle.command.specs.Requests.{requestOf, lookup}
+use Rattle.command.specs.Opening.{opened, openingErrno}
+use Rattle.command.specs.Opened.{row-number, opened-open}
+use Rattle.command.proofs.Lookups.{listed}
+use Rattle.table.specs.declared.Object.{Object}
+use Rattle.table.specs.declared.Mapping.{Mapping}
 use Rattle.table.specs.declared.Table.{Table}
+use Rattle.table.specs.Records.{isSpace, objectAt, spaceAt, attachedTo}
+use Rattle.table.specs.Charge.{freeRecord}
+use Rattle.table.specs.Good.{good}
+use Rattle.facts.specs.Gathered.{Gathered}
+use Rattle.edits.specs.declared.Edit.{Edit}
+use Rattle.edits.specs.Edits.{refuse}
 use Rattle.edits.specs.declared.Answer.{Answer}
-use Rattle.edits.specs.Answers.{refusedBy}
-use Rattle.tablecheck.specs.Gate.{gateErrno}
-use Rattle.spacecalls.specs.Calls.{rangesResult, rangesReply, rangesWritten}
-use Rattle.iommufd.specs.Door.{Done, commandDone, rowDone, callDone}
+use Rattle.edits.specs.Answers.{outcome, replied}
+use Rattle.digests.specs.declared.Digest.{Digest}
+use Rattle.digests.specs.Digest.{Seen, DigestOf}
+use Rattle.tablecheck.specs.Gate.{tableWith, gateErrno}
+use Rattle.spaces.specs.Objects.{allocEdit, destroyEdit}
+use Rattle.spaces.specs.Allow.{allowEdit}
+use Rattle.spacecalls.specs.Calls.{allocCall, allocBytes, RangesDone}
+use Rattle.spacecalls.proofs.Replying.{ranges-gated, ranges-answered}
+use Rattle.mappingcalls.specs.Calls.{mapDecided, mapCall, mapBytes, copyDecided, copyCall, copyBytes, unmapDecided, unmapCall, unmapBytes}
+use Rattle.iommufd.specs.Door.{rowDone, commandDone, callDone}
+use Rattle.iommufd.specs.Deciding.{firstId, secondId, commandIn, commandEdit, rowEdit, callEdit, Decided, call-edit}
 
--- what is left is a Done, part by part
-abbrev pub Left : Done → Answer → List ℕ → List ℕ → Type 0
-Left d a cmd area = (a ≡ d .answer) × (cmd ≡ d .bytes) × (area ≡ d .area)
+-- what is left by a command itself
+abbrev Left : Command → Table → List ℕ → List ℕ → Edit → List ℕ → List ℕ → Type 0
+Left c t cmd area e cmd′ area′ = (e ≡ commandEdit c t cmd area) × (cmd′ ≡ commandDone c t cmd area .bytes) × (area′ ≡ commandDone c t cmd area .area)
 
-left : {d e : Done} (a : Answer) (cmd area : List ℕ) → d ≡ e → Left d a cmd area → Left e a cmd area
-left a cmd area p l = (l .0 ∙ ap (λ (x : Done). x .answer) p, l .1 ∙ ap (λ (x : Done). x .bytes) p, l .2 ∙ ap (λ (x : Done). x .area) p)
+module _ (t : Table) (cmd area : List ℕ) where
+  -- a reply that is refused writes nothing
+  unwritten : (size off n value : ℕ) → cmd ≡ replied size off (suc n) value cmd
+  unfolding replied
+  unwritten size off n value = rw (ne-eqb (suc n) 0 (λ z. omega (arith, z)))
 
-module _ (t : Table) (n : ℕ) (cmd area : List ℕ) where
-  -- no row: the gate's errno
-  pub unlisted : (a : Answer) (errno : ℕ) → Unlisted ≡ lookup n → errno ≡ gateErrno t n cmd → a ≡ refusedBy t errno → Left (callDone t n cmd area) a cmd area
-  unfolding callDone
-  unlisted a errno e g f = left a cmd area (ap (λ (r : Row). rowDone r t n cmd area) e) (f ∙ ap (refusedBy t) g, refl, refl)
+  -- refused at the gate, command by command
+  gated : (c : Command) (n : ℕ) → gateErrno t (requestOf c .number) cmd ≡ suc n → Left c t cmd area (refuse (suc n)) cmd area
+  unfolding allocCall allocBytes mapCall mapBytes copyCall copyBytes unmapCall unmapBytes
+  gated Destroy n g = (rw g, refl, refl)
+  gated IoasAlloc n g = (rw g, rw g (unwritten 4 8 n 0), refl)
+  gated AllowIovas n g = (rw g, refl, refl)
+  gated Copy n g = (rw g, rw g (unwritten 8 24 n 0), refl)
+  gated IovaRanges n g = ranges-gated t cmd area (suc n) (sym g) (λ z. omega (arith, z))
+  gated Map n g = (rw g, rw g (unwritten 8 32 n 0), refl)
+  gated Unmap n g = (rw g, rw g (unwritten 8 16 n 0), refl)
 
-  -- the arm of command d: what the call there left is what d leaves
-  pub arm : (d c : Command) (size : ℕ) (a : Answer) (cmd′ area′ : List ℕ) → Listed c size ≡ lookup n → c ≡ d → Left (commandDone d t cmd area) a cmd′ area′ → Left (callDone t n cmd area) a cmd′ area′
-  unfolding callDone
-  arm d c size a cmd′ area′ e k l =
-      left a cmd′ area′ (ap (λ (x : Command). commandDone x t cmd area) (sym k) ∙ ap (λ (r : Row). rowDone r t n cmd area) e) l
+  module _ (request : ℕ) where
+    by-row : (r : Row) → lookup request ≡ r → (e : Edit) (cmd′ area′ : List ℕ) → e ≡ rowEdit r t request cmd area → cmd′ ≡ rowDone r t request cmd area .bytes → area′ ≡ rowDone r t request cmd area .area
+        → Decided t request cmd area e cmd′ area′
+    unfolding callEdit callDone
+    by-row r f e cmd′ area′ p q s = record { edit = p ∙ rw f; reply = q ∙ rw f; ranges = s ∙ rw f }
 
--- the table of IOVA_RANGES is the one given
-pub unchanged : (t : Table) (cmd area : List ℕ) (r : ℤ) (cmd′ area′ : List ℕ) → r ≡ rangesResult t cmd area → cmd′ ≡ rangesReply t cmd area → area′ ≡ rangesWritten t cmd area → Left (commandDone IovaRanges t cmd area) (record { result = r; table = t }) cmd′ area′
-unchanged t cmd area r cmd′ area′ e f g = (ap (λ (z : ℤ). record { result = z; table = t }) e, f, g)
+    -- a refusal before the command's own work
+    pub refused : (n : ℕ) (e : Edit) → n ≡ gateErrno t request cmd → (n ≡ 0 → ⊥) → e ≡ refuse n → Decided t request cmd area e cmd area
+    refused zero e g h k = absurd (h refl)
+    refused (suc n) e g h k = go (lookup request) refl
+      where
+        go : (r : Row) → lookup request ≡ r → Decided t request cmd area e cmd area
+        go Unlisted f = by-row Unlisted f e cmd area (k ∙ ap refuse g) refl refl
+        go (Listed c size) f =
+            let p = gated c n (ap (λ (m : ℕ). gateErrno t m cmd) (row-number request c size f .0) ∙ sym g) in
+            by-row (Listed c size) f e cmd area (k ∙ p .0) (p .1) (p .2)
+
+    -- the arm of a command that is open
+    pub arm : (c : Command) (e : Edit) (cmd′ area′ : List ℕ) → opened request cmd ≡ Open c → Left c t cmd area e cmd′ area′ → Decided t request cmd area e cmd′ area′
+    arm c e cmd′ area′ o l = by-row (Listed c (requestOf c .size)) (sym (listed c request (sym (opened-open request cmd c o .number)))) e cmd′ area′ (l .0) (l .1) (l .2)
+
+    -- past the gate
+    pub passed : (c : Command) → good t ≡ true → opened request cmd ≡ Open c → gateErrno t (requestOf c .number) cmd ≡ 0
+    unfolding gateErrno
+    passed c g o = let same : opened (requestOf c .number) cmd ≡ Open c = ap (λ (n : ℕ). opened n cmd) (opened-open request cmd c o .number) ∙ o in rw (g, same)
+
+    -- 117, or the errno of the opening
+    pub gate-bad : good t ≡ false → 117 ≡ gateErrno t request cmd
+    unfolding gateErrno
+    gate-bad g = rw g
+
+    pub gate-closed : (o : Opening) (n : ℕ) → good t ≡ true → o ≡ opened request cmd → n ≡ openingErrno o → n ≡ gateErrno t request cmd
+    unfolding gateErrno
+    gate-closed o n g f k = k ∙ rw (g, f)
+
+  -- ---- each arm: what was decided past the gate is the command's
+
+  pub destroy-left : (e : Edit) → gateErrno t 0x3B80 cmd ≡ 0 → e ≡ destroyEdit (t .objects) (field 4 cmd 4) → Left Destroy t cmd area e cmd area
+  destroy-left e g k = (k ∙ rw g, refl, refl)
+
+  pub alloc-left : (e : Edit) (cmd′ : List ℕ) → gateErrno t 0x3B81 cmd ≡ 0 → e ≡ allocEdit (t .objects) (field 4 cmd 4) → cmd′ ≡ replied 4 8 (e .errno) (e .value) cmd → Left IoasAlloc t cmd area e cmd′ area
+  unfolding allocCall allocBytes
+  alloc-left e cmd′ g k w = (k ∙ rw g, w ∙ rw (k, g), refl)
+
+  pub allow-left : (e : Edit) → gateErrno t 0x3B82 cmd ≡ 0 → e ≡ allowEdit (t .objects) (field 4 cmd 4) (field 4 cmd 8) (field 4 cmd 12) area → Left AllowIovas t cmd area e cmd area
+  allow-left e g k = (k ∙ rw g, refl, refl)
+
+  pub copy-left : (e : Edit) (cmd′ : List ℕ) → gateErrno t 0x3B83 cmd ≡ 0 → e ≡ copyDecided t cmd → cmd′ ≡ replied 8 24 (e .errno) (e .value) cmd → Left Copy t cmd area e cmd′ area
+  unfolding copyCall copyBytes
+  copy-left e cmd′ g k w = (k ∙ rw g, w ∙ rw (k, g), refl)
+
+  pub ranges-left : (e : Edit) (cmd′ area′ : List ℕ) → gateErrno t 0x3B84 cmd ≡ 0 → e ≡ refuse (e .errno) → RangesDone (t .objects) (e .errno) cmd cmd′ area area′ → Left IovaRanges t cmd area e cmd′ area′
+  ranges-left e cmd′ area′ g k d = let p = ranges-answered t cmd area cmd′ area′ (e .errno) g d in (k ∙ p .0, p .1, p .2)
+
+  pub map-left : (e : Edit) (cmd′ : List ℕ) → gateErrno t 0x3B85 cmd ≡ 0 → e ≡ mapDecided t cmd → cmd′ ≡ replied 8 32 (e .errno) (e .value) cmd → Left Map t cmd area e cmd′ area
+  unfolding mapCall mapBytes
+  map-left e cmd′ g k w = (k ∙ rw g, w ∙ rw (k, g), refl)
+
+  pub unmap-left : (e : Edit) (cmd′ : List ℕ) → gateErrno t 0x3B86 cmd ≡ 0 → e ≡ unmapDecided t cmd → cmd′ ≡ replied 8 16 (e .errno) (e .value) cmd → Left Unmap t cmd area e cmd′ area
+  unfolding unmapCall unmapBytes
+  unmap-left e cmd′ g k w = (k ∙ rw g, w ∙ rw (k, g), refl)
+
+-- ---- the opening
+
+pub is-open : (o p : Opening) (n : ℕ) (k c : Command) → o ≡ p → n ≡ openingErrno o → n ≡ 0 → k ≡ commandIn o → k ≡ c → p ≡ Open c
+is-open o p n k c e f z g h = sym e ∙ go o (sym f ∙ z) ∙ ap Open (sym g ∙ h)
+  where
+    go : (o : Opening) → openingErrno o ≡ 0 → o ≡ Open (commandIn o)
+    go UnknownRequest y = absurd (omega (arith, y))
+    go NoSizeField y = absurd (omega (arith, y))
+    go SizeTooSmall y = absurd (omega (arith, y))
+    go SizePastBytes y = absurd (omega (arith, y))
+    go TailNotZero y = absurd (omega (arith, y))
+    go (Open x) y = refl
+
+-- ---- the ids
+
+module _ (request : ℕ) (cmd : List ℕ) where
+  -- an id at offset 4
+  pub id-at-4 : 8 ≤ length cmd → (request ≡ 0x3B83 → ⊥) → (request ≡ 0x3B85 → ⊥) → firstId request cmd ≡ field 4 cmd 4
+  id-at-4 h a b = rw (le-ltb (length cmd) 8 h, ne-eqb request 0x3B83 a, ne-eqb request 0x3B85 b) (either (ltb (length cmd) 12))
+    where
+      either : (x : Bool) → cond x (field 4 cmd 4) (field 4 cmd 4) ≡ field 4 cmd 4
+      either true = refl
+      either false = refl
+
+  -- the space of MAP and of COPY
+  pub map-at-8 : 12 ≤ length cmd → request ≡ 0x3B85 → firstId request cmd ≡ field 4 cmd 8
+  map-at-8 h a = rw (le-ltb (length cmd) 8 (omega (arith, h)), le-ltb (length cmd) 12 h, a)
+
+  pub copy-at-8 : 12 ≤ length cmd → request ≡ 0x3B83 → firstId request cmd ≡ field 4 cmd 8
+  copy-at-8 h a = rw (le-ltb (length cmd) 8 (omega (arith, h)), le-ltb (length cmd) 12 h, a)
+
+pub second-at-12 : (cmd : List ℕ) → 16 ≤ length cmd → secondId cmd ≡ field 4 cmd 12
+second-at-12 cmd h = rw (le-ltb (length cmd) 16 h)
+
+pub seen-ids : (os : List Object) (a a′ b b′ : ℕ) (d : Digest) → a ≡ a′ → b ≡ b′ → Seen os a b d → Seen os a′ b′ d
+seen-ids os a a′ b b′ d e f h = rw (← e, ← f) h
+
+pub space-known : (os : List Object) (a b : ℕ) (d : Digest) (k : Bool) → Seen os a b d → k ≡ isSpace (d .first .kind) → k ≡ spaceAt os a
+unfolding spaceAt
+space-known os a b d k h e = e ∙ ap (λ (o : Object). isSpace (o .kind)) (h .first)
+
+-- ---- the arms of the code: what each called function gives, for the digest that the dispatcher has
+
+module _ (limit : ℕ) (os : List Object) (ms : List Mapping) (request : ℕ) (cmd area : List ℕ) (d : Digest) (e : Edit) (g : good (tableWith limit os ms) ≡ true) (s : Seen os (firstId request cmd) (secondId cmd) d) where
+  abbrev T : Table
+  T = tableWith limit os ms
+
+  -- the digest at the id that the command has at offset 4
+  at-4 : (c : Command) → opened request cmd ≡ Open c → (requestOf c .number ≡ 0x3B83 → ⊥) → (requestOf c .number ≡ 0x3B85 → ⊥) → 8 ≤ requestOf c .size → Seen os (field 4 cmd 4) (secondId cmd) d
+  at-4 c o a b h =
+      let k = opened-open request cmd c o in
+      seen-ids os (firstId request cmd) (field 4 cmd 4) (secondId cmd) (secondId cmd) d (id-at-4 request cmd (omega (arith, h, k .known, k .lent)) (λ z. a (k .number ∙ z)) (λ z. b (k .number ∙ z))) refl s
+
+  pub destroy-arm : (id : ℕ) → opened request cmd ≡ Open Destroy → id ≡ field 4 cmd 4 → (d .first ≡ objectAt os id → d .held ≡ any (λ x. attachedTo id (x .kind)) os → e ≡ destroyEdit os id) → Decided T request cmd area e cmd area
+  destroy-arm id o r h =
+      let w = at-4 Destroy o (λ z. omega (arith, z)) (λ z. omega (arith, z)) (omega arith) in
+      arm T cmd area request Destroy e cmd area o (destroy-left T cmd area e (passed T cmd area request Destroy g o)
+      (h (w .first ∙ ap (objectAt os) (sym r)) (w .held ∙ ap (λ (i : ℕ). any (λ x. attachedTo i (x .kind)) os) (sym r)) ∙ ap (destroyEdit os) r))
+
+  pub alloc-arm : (cmd′ : List ℕ) → opened request cmd ≡ Open IoasAlloc → (d .free ≡ found (freeRecord os) → (e ≡ allocEdit os (field 4 cmd 4)) × (cmd′ ≡ replied 4 8 (e .errno) (e .value) cmd)) → Decided T request cmd area e cmd′ area
+  alloc-arm cmd′ o h = let p = h (s .free) in arm T cmd area request IoasAlloc e cmd′ area o (alloc-left T cmd area e cmd′ (passed T cmd area request IoasAlloc g o) (p .0) (p .1))
+
+  pub allow-arm : opened request cmd ≡ Open AllowIovas → (d .first ≡ objectAt os (field 4 cmd 4) → Gathered os (d .blocks) → e ≡ allowEdit os (field 4 cmd 4) (field 4 cmd 8) (field 4 cmd 12) area) → Decided T request cmd area e cmd area
+  allow-arm o h =
+      let w = at-4 AllowIovas o (λ z. omega (arith, z)) (λ z. omega (arith, z)) (omega arith) in
+      arm T cmd area request AllowIovas e cmd area o (allow-left T cmd area e (passed T cmd area request AllowIovas g o) (h (w .first) (w .blocks)))
+
+  pub copy-arm : (cmd′ : List ℕ) → opened request cmd ≡ Open Copy → (Seen os (field 4 cmd 8) (field 4 cmd 12) d → e ≡ copyDecided T cmd) → cmd′ ≡ replied 8 24 (e .errno) (e .value) cmd → Decided T request cmd area e cmd′ area
+  copy-arm cmd′ o h w =
+      let k = opened-open request cmd Copy o in
+      let l : 40 ≤ length cmd = omega (arith, k .known, k .lent) in
+      arm T cmd area request Copy e cmd′ area o (copy-left T cmd area e cmd′ (passed T cmd area request Copy g o)
+      (h (seen-ids os (firstId request cmd) (field 4 cmd 8) (secondId cmd) (field 4 cmd 12) d (copy-at-8 request cmd (omega (arith, l)) (sym (k .number))) (second-at-12 cmd (omega (arith, l))) s)) w)
+
+  pub ranges-arm : (cmd′ area′ : List ℕ) → opened request cmd ≡ Open IovaRanges → (Seen os (field 4 cmd 4) (secondId cmd) d → (e ≡ refuse (e .errno)) × RangesDone os (e .errno) cmd cmd′ area area′) → Decided T request cmd area e cmd′ area′
+  ranges-arm cmd′ area′ o h =
+      let p = h (at-4 IovaRanges o (λ z. omega (arith, z)) (λ z. omega (arith, z)) (omega arith)) in
+      arm T cmd area request IovaRanges e cmd′ area′ o (ranges-left T cmd area e cmd′ area′ (passed T cmd area request IovaRanges g o) (p .0) (p .1))
+
+  pub map-arm : (cmd′ : List ℕ) → opened request cmd ≡ Open Map → (Seen os (field 4 cmd 8) (secondId cmd) d → e ≡ mapDecided T cmd) → cmd′ ≡ replied 8 32 (e .errno) (e .value) cmd → Decided T request cmd area e cmd′ area
+  map-arm cmd′ o h w =
+      let k = opened-open request cmd Map o in
+      arm T cmd area request Map e cmd′ area o (map-left T cmd area e cmd′ (passed T cmd area request Map g o)
+      (h (seen-ids os (firstId request cmd) (field 4 cmd 8) (secondId cmd) (secondId cmd) d (map-at-8 request cmd (omega (arith, k .known, k .lent)) (sym (k .number))) refl s)) w)
+
+  pub unmap-arm : (known : Bool) (cmd′ : List ℕ) → opened request cmd ≡ Open Unmap → known ≡ isSpace (d .first .kind) → (known ≡ spaceAt os (field 4 cmd 4) → e ≡ unmapDecided T cmd) → cmd′ ≡ replied 8 16 (e .errno) (e .value) cmd → Decided T request cmd area e cmd′ area
+  unmap-arm known cmd′ o k h w =
+      let v = at-4 Unmap o (λ z. omega (arith, z)) (λ z. omega (arith, z)) (omega arith) in
+      arm T cmd area request Unmap e cmd′ area o (unmap-left T cmd area e cmd′ (passed T cmd area request Unmap g o) (h (space-known os (field 4 cmd 4) (secondId cmd) d known v k)) w)
+
+-- ---- by value
+
+pub digest-for : (os : List Object) (a a′ b b′ : ℕ) (d : Digest) → a ≡ a′ → b ≡ b′ → DigestOf os a b d → DigestOf os a′ b′ d
+digest-for os a a′ b b′ d e f h = rw (← e, ← f) h
+
+pub call-done : (t : Table) (request : ℕ) (cmd area : List ℕ) (e : Edit) (a : Answer) (cmd′ area′ : List ℕ) → Decided t request cmd area e cmd′ area′ → a ≡ outcome t e
+    → (a ≡ callDone t request cmd area .answer) × (cmd′ ≡ callDone t request cmd area .bytes) × (area′ ≡ callDone t request cmd area .area)
+call-done t request cmd area e a cmd′ area′ d h = (h ∙ ap (outcome t) (d .edit) ∙ sym (call-edit t request cmd area), d .reply, d .ranges)

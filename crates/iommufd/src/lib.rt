@@ -1,14 +1,24 @@
 // The interface of the whole. Six operations on a table; nobody else writes it, and one call runs at a time. Each answers for any table, any bytes and any numbers, and ends.
 // What each gives back is one equation with a definition; `specs/` says what the definitions mean, and the README by which theorem.
+ghost use mathlib.Core.List.{List};
 ghost use mathlib.Core.Path.{_≡_};
+ghost use lib.ListN.{length};
+ghost use Rattle.table.specs.declared.Object.{Object};
+ghost use Rattle.table.specs.Good.{good};
 ghost use Rattle.edits.specs.Answers.{freshAnswer};
+ghost use Rattle.digests.specs.Digest.{DigestOf, Digested};
+ghost use Rattle.tablecheck.specs.Gate.{tableWith};
 ghost use Rattle.hostcalls.specs.Calls.{bindCall, attachCall, detachCall, reachCall};
-ghost use Rattle.iommufd.specs.Door.{commandDone, callDone};
+ghost use Rattle.iommufd.specs.Door.{callDone};
+ghost use Rattle.iommufd.specs.Deciding.{firstId, secondId, commandIn, Decided};
 use command::Command;
-use command::Row;
+use command::Opening;
+use digests::Digest;
 use edits::Answer;
+use edits::Edit;
 use hostcalls::Reached;
 use rangelists::Reserved;
+use table::Mapping;
 use table::Table;
 
 // An empty table with a charge limit in pages. Above 2^36 the result is -22, and every call on the table beside it answers -117.
@@ -18,12 +28,97 @@ pub fn fresh(limit: u64) -> Answer
     edits::fresh(limit)
 }
 
-// IOVA_RANGES, which gives back the table as it was.
-fn ranges(t: Table, cmd: &mut [u8], area: &mut [u8]) -> Answer
-    ensures { λ a. ⌜ (a ≡ commandDone Command.IovaRanges t (now (cmd .entry)) (now (area .entry)) .answer) × (now (cmd .exit) ≡ commandDone Command.IovaRanges t (now (cmd .entry)) (now (area .entry)) .bytes) × (now (area .exit) ≡ commandDone Command.IovaRanges t (now (cmd .entry)) (now (area .entry)) .area) ⌝ }
+// Whether a table is good: on any other every call answers -117.
+pub fn is_good(t: Table) -> bool
+    ensures { λ b. ⌜ b ≡ good t ⌝ }
 {
-    let result = spacecalls::iova_ranges(t, cmd, area);
-    Answer { result, table: t }
+    let os = t.objects;
+    let d = digests::digest_of(os, 0, 0);
+    let ms = t.mappings;
+    tablecheck::is_good(t.limit, d, ms)
+}
+
+// ---- the commands
+
+// The two ids that a command names, as far as its bytes are lent: the digest of the objects is made for them.
+pub fn first_id(request: u32, cmd: &[u8]) -> u32
+    ensures { λ n. ⌜ n ≡ firstId request (now (cmd .entry)) ⌝ }
+{
+    if cmd.len() < 8 {
+        return 0;
+    }
+    if cmd.len() < 12 {
+        return wire::read32(cmd, 4);
+    }
+    if command::either(request == 0x3B83, request == 0x3B85) {
+        return wire::read32(cmd, 8);
+    }
+    wire::read32(cmd, 4)
+}
+
+pub fn second_id(cmd: &[u8]) -> u32
+    ensures { λ n. ⌜ n ≡ secondId (now (cmd .entry)) ⌝ }
+{
+    if cmd.len() < 16 {
+        return 0;
+    }
+    wire::read32(cmd, 12)
+}
+
+// The command that is open.
+fn command_in(o: Opening) -> Command
+    ensures { λ c. ⌜ c ≡ commandIn o ⌝ }
+{
+    match o {
+        Opening::UnknownRequest => Command::Destroy,
+        Opening::NoSizeField => Command::Destroy,
+        Opening::SizeTooSmall => Command::Destroy,
+        Opening::SizePastBytes => Command::Destroy,
+        Opening::TailNotZero => Command::Destroy,
+        Opening::Open(c) => c,
+    }
+}
+
+// What a command decides: 117, then its opening, then its own checks. The reply is written into its bytes and the range area; the table is not changed.
+pub fn decide(
+    limit: u64,
+    d: Digest,
+    ms: [Mapping; 128],
+    request: u32,
+    cmd: &mut [u8],
+    area: &mut [u8],
+) -> Edit
+    requires { ⌜ Digested d ⌝ }
+    ensures { λ e. ⌜ ((os : List Object) → length os ≡ 32 → DigestOf os (firstId request (now (cmd .entry))) (secondId (now (cmd .entry))) d → Decided (tableWith limit os ms) request (now (cmd .entry)) (now (area .entry)) e (now (cmd .exit)) (now (area .exit))) ⌝ }
+{
+    if !tablecheck::is_good(limit, d, ms) {
+        return edits::refusal(117);
+    }
+    let opening = command::open(request, cmd);
+    let errno = command::opening_errno(opening);
+    if errno != 0 {
+        return edits::refusal(errno);
+    }
+    let first = d.first;
+    let c = command_in(opening);
+    match c {
+        Command::Destroy => spaces::decide_destroy(first, d.held, wire::read32(cmd, 4)),
+        Command::IoasAlloc => {
+            let free = d.free;
+            spacecalls::alloc(free, cmd)
+        }
+        Command::AllowIovas => {
+            let blocks = d.blocks;
+            spacecalls::allow(first, blocks, cmd, area)
+        }
+        Command::Copy => mappingcalls::copy(d, ms, cmd),
+        Command::IovaRanges => spacecalls::ranges(d, cmd, area),
+        Command::Map => mappingcalls::map(limit, d, ms, cmd),
+        Command::Unmap => {
+            let k = first.kind;
+            mappingcalls::unmap(table::is_space(k), ms, cmd)
+        }
+    }
 }
 
 // A driver's command: its request number, its bytes and the range area, which are changed in place. The result is 0 or the negative of an errno. A refusal changes
@@ -31,20 +126,14 @@ fn ranges(t: Table, cmd: &mut [u8], area: &mut [u8]) -> Answer
 pub fn call(t: Table, request: u32, cmd: &mut [u8], area: &mut [u8]) -> Answer
     ensures { λ a. ⌜ (a ≡ callDone t request (now (cmd .entry)) (now (area .entry)) .answer) × (now (cmd .exit) ≡ callDone t request (now (cmd .entry)) (now (area .entry)) .bytes) × (now (area .exit) ≡ callDone t request (now (cmd .entry)) (now (area .entry)) .area) ⌝ }
 {
-    let row = command::look_up(request);
-    let Row::Listed(c, _) = row else {
-        return edits::refused(t, tablecheck::gate(t, request, cmd));
-    };
-    match c {
-        Command::Destroy => spacecalls::destroy(t, cmd),
-        Command::IoasAlloc => spacecalls::ioas_alloc(t, cmd),
-        Command::AllowIovas => spacecalls::allow_iovas(t, cmd, area),
-        Command::Copy => mappingcalls::copy(t, cmd),
-        Command::IovaRanges => ranges(t, cmd, area),
-        Command::Map => mappingcalls::map(t, cmd),
-        Command::Unmap => mappingcalls::unmap(t, cmd),
-    }
+    let os = t.objects;
+    let d = digests::digest_of(os, first_id(request, cmd), second_id(cmd));
+    let ms = t.mappings;
+    let e = decide(t.limit, d, ms, request, cmd, area);
+    edits::settled(t, e)
 }
+
+// ---- the host calls
 
 // A new device, loose, with its page sizes and reserved ranges. The result is its id.
 pub fn bind(t: Table, bitmap: u64, reserved: Reserved) -> Answer

@@ -4,10 +4,10 @@ use mathlib.Core.Path.{_≡_, refl, sym, ap, _∙_}
 use mathlib.Core.Bool.{Bool, true, false}
 use mathlib.Core.List.{List, [], _∷_}
 use native.Mathlib.Omega.{arith}
-use Rattle.lists.specs.Tests.{by-test, contrary}
-use Rattle.lists.specs.Checks.{Check, when, first, first-fires, first-append}
+use Rattle.lists.specs.Tests.{contrary}
+use Rattle.lists.specs.Checks.{Check, when, first, first-append}
 use Rattle.table.specs.declared.Object.{Object}
-use Rattle.table.specs.Records.{isDevice, isSpace, objectAt}
+use Rattle.table.specs.Records.{isSpace, objectAt}
 use Rattle.edits.specs.declared.Edit.{Edit}
 use Rattle.edits.specs.Edits.{refuse, settle}
 
@@ -19,10 +19,6 @@ checked b c n r rest ok cs e f g =
 pub checked-last : (b c : Bool) (n r ok : ℕ) → r ≡ first (when b n ∷ []) ok → b ≡ c → r ≡ first (when c n ∷ []) ok
 checked-last b c n r ok e f = e ∙ ap (λ (x : Bool). first (when x n ∷ []) ok) f
 
--- where no check of a list fired, the first did not
-pub first-silent : (b : Bool) (n : ℕ) (cs : List (Check ℕ)) → (n ≡ 0 → ⊥) → first (when b n ∷ cs) 0 ≡ 0 → b ≡ false
-first-silent b n cs h e = by-test b (λ t. absurd (h (sym (first-fires (when b n) cs 0 t) ∙ e))) (λ t. t)
-
 -- ---- the edit
 
 pub settle-refused : (n m : ℕ) (r e : Edit) → n ≡ m → (n ≡ 0 → ⊥) → r ≡ refuse n → r ≡ settle m e
@@ -33,12 +29,7 @@ pub settle-taken : (n m : ℕ) (r e : Edit) → n ≡ m → n ≡ 0 → r ≡ e 
 settle-taken n zero r e s h k = k
 settle-taken n (suc m) r e s h k = absurd (omega arith)
 
--- an object that is no released one has an id from 1 on
-pub device-id : (os : List Object) (id : ℕ) → isDevice (objectAt os id .kind) ≡ true → 1 ≤ id
-unfolding objectAt
-device-id os zero e = contrary false e refl
-device-id os (suc i) e = omega arith
-
+-- a space has an id from 1 on
 pub space-id : (os : List Object) (id : ℕ) → isSpace (objectAt os id .kind) ≡ true → 1 ≤ id
 unfolding objectAt
 space-id os zero e = contrary false e refl

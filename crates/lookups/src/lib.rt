@@ -1,8 +1,10 @@
 // Small questions about the records that several calls ask.
+ghost use mathlib.Core.List.{List};
 ghost use mathlib.Core.Path.{_≡_};
+ghost use lib.ListN.{length};
 ghost use Rattle.lists.specs.Search.{any};
 ghost use Rattle.rangelists.specs.Listed.{found};
-ghost use Rattle.table.specs.Records.{attachedTo, objectAt, spaceAt};
+ghost use Rattle.table.specs.Records.{attachedTo, objectAt};
 ghost use Rattle.table.specs.Spaces.{pageFor, alignment};
 ghost use Rattle.table.specs.Charge.{freeRecord};
 ghost use Rattle.edits.specs.Edits.{placed};
@@ -22,14 +24,6 @@ pub fn object_at(os: [Object; 32], id: u32) -> Object
         return edits::free_object();
     }
     os[(id - 1) as usize]
-}
-
-pub fn space_at(os: [Object; 32], id: u32) -> bool
-    ensures { λ b. ⌜ b ≡ spaceAt os id ⌝ }
-{
-    let o = object_at(os, id);
-    let k = o.kind;
-    table::is_space(k)
 }
 
 // The lowest free record.
@@ -90,12 +84,14 @@ pub fn has_device(os: [Object; 32], s: u32) -> bool
 }
 
 // A new object in the lowest free record.
-pub fn place_new(os: [Object; 32], object: Object) -> Edit
-    ensures { λ e. ⌜ e ≡ placed (freeRecord os) object ⌝ }
+pub fn place_new(free: Found, object: Object) -> Edit
+    ensures { λ e. ⌜ ((os : List Object) → length os ≡ 32 → free ≡ found (freeRecord os) → e ≡ placed (freeRecord os) object) ⌝ }
 {
-    let f = free_record(os);
-    let Found::At(i) = f else {
+    let Found::At(i) = free else {
         return edits::refusal(12);
     };
+    if 32 <= i {
+        return edits::refusal(12);
+    }
     edits::acceptance((i + 1) as u64, Change::Put(i), object)
 }

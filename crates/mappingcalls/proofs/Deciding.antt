@@ -1,23 +1,21 @@
--- Past the gate: the records keep their rules, and the numbers that the code read are the fields of the command.
+-- The numbers that the code read are the fields of the command.
 use Prim.Native.Nat.{ℕ}
-use mathlib.Core.Path.{_≡_, sym, _∙_}
-use mathlib.Core.Bool.{true}
+use mathlib.Core.Path.{_≡_, _∙_}
 use mathlib.Core.List.{List}
-use Rattle.lists.specs.Each.{Each}
 use Rattle.wire.specs.Fields.{field}
+use Rattle.table.specs.declared.Object.{Object}
 use Rattle.table.specs.declared.Table.{Table}
-use Rattle.table.specs.Checked.{recordOk}
-use Rattle.table.specs.Sound.{good-sound}
 use Rattle.edits.specs.declared.Edit.{Edit}
-use Rattle.tablecheck.specs.Gate.{gateErrno}
+use Rattle.digests.specs.declared.Digest.{Digest}
+use Rattle.digests.specs.Digest.{Seen}
 use Rattle.mappings.specs.Map.{mapEdit}
 use Rattle.copying.specs.Copy.{copyEdit}
 use Rattle.unmapping.specs.Unmap.{unmapEdit}
 use Rattle.mappingcalls.specs.Calls.{mapDecided, copyDecided, unmapDecided}
-use Rattle.mappingcalls.specs.Accepted.{gate-table}
 
-pub gate-records : (t : Table) (request n : ℕ) (bytes : List ℕ) → n ≡ gateErrno t request bytes → n ≡ 0 → Each (λ m. recordOk (t .objects) m ≡ true) (t .mappings)
-gate-records t request n bytes e z = good-sound t (gate-table t request bytes (sym e ∙ z)) .records
+-- a digest for the ids in the bytes is one for the ids that were read
+pub seen-at : (os : List Object) (a a′ b b′ : ℕ) (d : Digest) → a ≡ a′ → b ≡ b′ → Seen os a′ b′ d → Seen os a b d
+seen-at os a a′ b b′ d e f h = rw (e, f) h
 
 module _ (t : Table) (bytes : List ℕ) (e : Edit) where
   pub map-fields : (flags s z memory n x : ℕ) → s ≡ field 4 bytes 8 → flags ≡ field 4 bytes 4 → n ≡ field 8 bytes 24 → x ≡ field 8 bytes 32 → z ≡ field 4 bytes 12 → memory ≡ field 8 bytes 16

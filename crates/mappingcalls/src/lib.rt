@@ -1,13 +1,22 @@
-// MAP, COPY and UNMAP. Each takes any table and any bytes: a bad table is 117, then the opening, then the command's own checks; the table that comes back is the one
-// given where the command refuses, and then no byte is written.
+// MAP, COPY and UNMAP past the gate: the fields of the command, what is decided, and the reply where it is accepted. A refusal writes no byte.
+ghost use mathlib.Core.Bool.{true};
+ghost use mathlib.Core.List.{List};
 ghost use mathlib.Core.Path.{_≡_};
-ghost use Prim.Native.Nat.{_+_, _≤_};
+ghost use Prim.Native.Nat.{ℕ, _+_, _≤_};
 ghost use lib.ListN.{length};
+ghost use Rattle.lists.specs.Each.{Each};
+ghost use Rattle.wire.specs.Fields.{field};
+ghost use Rattle.table.specs.declared.Object.{Object};
+ghost use Rattle.table.specs.Records.{spaceAt};
+ghost use Rattle.table.specs.Checked.{recordOk};
 ghost use Rattle.edits.specs.Answers.{replied};
-ghost use Rattle.mappingcalls.specs.Calls.{mapAnswer, mapBytes, copyAnswer, copyBytes, unmapAnswer, unmapBytes};
-use edits::Answer;
+ghost use Rattle.digests.specs.Digest.{Seen};
+ghost use Rattle.tablecheck.specs.Gate.{tableWith};
+ghost use Rattle.mappingcalls.specs.Calls.{mapDecided, copyDecided, unmapDecided};
+use digests::Digest;
+use edits::Edit;
 use places::Target;
-use table::Table;
+use table::Mapping;
 
 // The reply, where there is one: a number of 8 bytes.
 fn write_value(cmd: &mut [u8], off: usize, errno: u8, value: u64)
@@ -20,13 +29,10 @@ fn write_value(cmd: &mut [u8], off: usize, errno: u8, value: u64)
 }
 
 // MAP: a new mapping with a backing of its own. Its address is written, also where it was fixed.
-pub fn map(t: Table, cmd: &mut [u8]) -> Answer
-    ensures { λ a. ⌜ (a ≡ mapAnswer t (now (cmd .entry))) × (now (cmd .exit) ≡ mapBytes t (now (cmd .entry))) ⌝ }
+pub fn map(limit: u64, d: Digest, ms: [Mapping; 128], cmd: &mut [u8]) -> Edit
+    requires { ⌜ (40 ≤ length (now cmd)) × ((os : List Object) × Each (λ m. recordOk os m ≡ true) ms) ⌝ }
+    ensures { λ e. ⌜ ((os : List Object) (b : ℕ) → Seen os (field 4 (now (cmd .entry)) 8) b d → e ≡ mapDecided (tableWith limit os ms) (now (cmd .entry))) × (now (cmd .exit) ≡ replied 8 32 (e .errno) (e .value) (now (cmd .entry))) ⌝ }
 {
-    let errno = tablecheck::gate(t, 0x3B85, cmd);
-    if errno != 0 {
-        return edits::refused(t, errno);
-    }
     let target = Target {
         space: wire::read32(cmd, 8),
         flags: wire::read32(cmd, 4),
@@ -35,22 +41,16 @@ pub fn map(t: Table, cmd: &mut [u8]) -> Answer
     };
     let zero = wire::read32(cmd, 12);
     let memory = wire::read64(cmd, 16);
-    let limit = t.limit;
-    let os = t.objects;
-    let ms = t.mappings;
-    let e = mappings::decide_map(limit, os, ms, target, zero, memory);
+    let e = mappings::decide_map(limit, d, ms, target, zero, memory);
     write_value(cmd, 32, e.errno, e.value);
-    edits::settled(t, e)
+    e
 }
 
 // COPY: a mapping of a source's memory and backing in a target space.
-pub fn copy(t: Table, cmd: &mut [u8]) -> Answer
-    ensures { λ a. ⌜ (a ≡ copyAnswer t (now (cmd .entry))) × (now (cmd .exit) ≡ copyBytes t (now (cmd .entry))) ⌝ }
+pub fn copy(d: Digest, ms: [Mapping; 128], cmd: &mut [u8]) -> Edit
+    requires { ⌜ (40 ≤ length (now cmd)) × ((os : List Object) × Each (λ m. recordOk os m ≡ true) ms) ⌝ }
+    ensures { λ e. ⌜ ((limit : ℕ) (os : List Object) → Seen os (field 4 (now (cmd .entry)) 8) (field 4 (now (cmd .entry)) 12) d → e ≡ copyDecided (tableWith limit os ms) (now (cmd .entry))) × (now (cmd .exit) ≡ replied 8 24 (e .errno) (e .value) (now (cmd .entry))) ⌝ }
 {
-    let errno = tablecheck::gate(t, 0x3B83, cmd);
-    if errno != 0 {
-        return edits::refused(t, errno);
-    }
     let target = Target {
         space: wire::read32(cmd, 8),
         flags: wire::read32(cmd, 4),
@@ -59,27 +59,20 @@ pub fn copy(t: Table, cmd: &mut [u8]) -> Answer
     };
     let source = wire::read32(cmd, 12);
     let from = wire::read64(cmd, 32);
-    let os = t.objects;
-    let ms = t.mappings;
-    let e = copying::decide_copy(os, ms, target, source, from);
+    let e = copying::decide_copy(d, ms, target, source, from);
     write_value(cmd, 24, e.errno, e.value);
-    edits::settled(t, e)
+    e
 }
 
 // UNMAP: the mappings inside a range go, or all of the space. Their bytes are written.
-pub fn unmap(t: Table, cmd: &mut [u8]) -> Answer
-    ensures { λ a. ⌜ (a ≡ unmapAnswer t (now (cmd .entry))) × (now (cmd .exit) ≡ unmapBytes t (now (cmd .entry))) ⌝ }
+pub fn unmap(known: bool, ms: [Mapping; 128], cmd: &mut [u8]) -> Edit
+    requires { ⌜ (24 ≤ length (now cmd)) × ((os : List Object) × Each (λ m. recordOk os m ≡ true) ms) ⌝ }
+    ensures { λ e. ⌜ ((limit : ℕ) (os : List Object) → known ≡ spaceAt os (field 4 (now (cmd .entry)) 4) → e ≡ unmapDecided (tableWith limit os ms) (now (cmd .entry))) × (now (cmd .exit) ≡ replied 8 16 (e .errno) (e .value) (now (cmd .entry))) ⌝ }
 {
-    let errno = tablecheck::gate(t, 0x3B86, cmd);
-    if errno != 0 {
-        return edits::refused(t, errno);
-    }
     let space = wire::read32(cmd, 4);
     let address = wire::read64(cmd, 8);
     let length = wire::read64(cmd, 16);
-    let os = t.objects;
-    let ms = t.mappings;
-    let e = unmapping::decide_unmap(os, ms, space, address, length);
+    let e = unmapping::decide_unmap(known, ms, space, address, length);
     write_value(cmd, 16, e.errno, e.value);
-    edits::settled(t, e)
+    e
 }

@@ -1,20 +1,27 @@
 // What MAP decides over a good table: the numbers of the command first, then one pass over the records, then the place. COPY shares the parts of a new mapping.
 ghost use mathlib.Core.Bool.{true};
+ghost use mathlib.Core.List.{List};
 ghost use mathlib.Core.Path.{_≡_};
-ghost use Prim.Native.Nat.{_+_, _≤_};
+ghost use Prim.Native.Nat.{ℕ, _+_, _≤_};
 ghost use lib.Dec.{ltb};
 ghost use Rattle.lists.specs.Tests.{onlyIf};
 ghost use Rattle.lists.specs.Each.{Each};
 ghost use Rattle.lists.specs.Checks.{first};
+ghost use Rattle.table.specs.declared.Object.{Object};
+ghost use Rattle.table.specs.Records.{spaceAt};
 ghost use Rattle.table.specs.Checked.{recordOk};
+ghost use Rattle.digests.specs.Digest.{Seen};
+ghost use Rattle.places.specs.Places.{taken};
+ghost use Rattle.places.specs.Placing.{Placed};
 ghost use Rattle.mappings.specs.Made.{rightsOf, numberIn, mapped};
 ghost use Rattle.mappings.specs.Map.{noRight, wrongLength, fixedPasses, mapNumberChecks, roomChecks, foundOf, mapEdit};
+use digests::Digest;
 use edits::Change;
 use edits::Edit;
+use places::Placing;
 use places::Target;
 use rangelists::Found;
 use table::Mapping;
-use table::Object;
 
 // ---- the parts of a new mapping
 
@@ -73,10 +80,22 @@ pub fn fixed_passes(flags: u32, x: u64, n: u64) -> bool
     command::both(command::is_fixed(flags), ranges::passes_max(x, n))
 }
 
+// The place of a target, by the digest of the objects for its space. `touched` tells whether the range asked touches a mapping.
+pub fn place_in(d: Digest, ms: [Mapping; 128], t: Target, touched: bool) -> Placing
+    ensures { λ p. ⌜ ((os : List Object) (b : ℕ) → Seen os (t .space) b d → touched ≡ taken ms (t .space) (t .length) (t .address) → Placed os ms t p) ⌝ }
+{
+    let o = d.first;
+    let allow = o.allow;
+    let blocks = d.blocks;
+    let reserved = blocks::is_blocked(blocks, t.space, ranges::span_of(t.address, t.length));
+    let blocked = blocking::blocked_in(blocks, ms, t.space);
+    places::place_for(d.alignment, allow, blocked, t, reserved, touched)
+}
+
 // ---- MAP
 
-fn map_number_errno(os: [Object; 32], t: Target, zero: u32, memory: u64) -> u8
-    ensures { λ r. ⌜ r ≡ first (mapNumberChecks os (t .flags) (t .space) zero memory (t .length) (t .address)) 0 ⌝ }
+fn map_number_errno(known: bool, t: Target, zero: u32, memory: u64) -> u8
+    ensures { λ r. ⌜ ((os : List Object) → known ≡ spaceAt os (t .space) → r ≡ first (mapNumberChecks os (t .flags) (t .space) zero memory (t .length) (t .address)) 0) ⌝ }
 {
     let flags = t.flags;
     let n = t.length;
@@ -85,7 +104,6 @@ fn map_number_errno(os: [Object; 32], t: Target, zero: u32, memory: u64) -> u8
     let wrong = is_wrong_length(n);
     let past = ranges::passes_max(memory, n);
     let fixed = fixed_passes(flags, t.address, n);
-    let known = lookups::space_at(os, t.space);
     command::refuse_if(
         unknown,
         95,
@@ -142,23 +160,27 @@ fn founded(backing: u32, t: Target, memory: u64, address: u64) -> Mapping
     }
 }
 
+// The digest is that of the objects for the target's space.
 pub fn decide_map(
     limit: u64,
-    os: [Object; 32],
+    d: Digest,
     ms: [Mapping; 128],
     t: Target,
     zero: u32,
     memory: u64,
 ) -> Edit
-    requires { ⌜ Each (λ m. recordOk os m ≡ true) ms ⌝ }
-    ensures { λ e. ⌜ e ≡ mapEdit limit os ms (t .flags) (t .space) zero memory (t .length) (t .address) ⌝ }
+    requires { ⌜ ((os : List Object) × Each (λ m. recordOk os m ≡ true) ms) ⌝ }
+    ensures { λ e. ⌜ ((os : List Object) (b : ℕ) → Seen os (t .space) b d → e ≡ mapEdit limit os ms (t .flags) (t .space) zero memory (t .length) (t .address)) ⌝ }
 {
-    let wrong = map_number_errno(os, t, zero, memory);
+    let o = d.first;
+    let k = o.kind;
+    let wrong = map_number_errno(table::is_space(k), t, zero, memory);
     if wrong != 0 {
         return edits::refusal(wrong);
     }
-    let v = surveys::survey_of(ms, t.space, ranges::span_of(t.address, t.length));
-    let p = places::place_for(os, ms, t, v.touched);
+    let r = ranges::span_of(t.address, t.length);
+    let v = surveys::survey_of(ms, t.space, r);
+    let p = place_in(d, ms, t, v.touched);
     if p.errno != 0 {
         return edits::refusal(p.errno);
     }

@@ -2,41 +2,37 @@
 use Prim.Native.Nat.{ℕ}
 use mathlib.Core.Path.{_≡_, refl, sym, ap, _∙_}
 use mathlib.Core.Bool.{Bool, true, false, not}
-use mathlib.Core.List.{List, [], _∷_, _++_, map}
+use mathlib.Core.List.{List, [], _∷_}
 use native.Mathlib.Omega.{arith}
 use Rattle.lists.specs.Search.{any}
-use Rattle.lists.specs.Sums.{keep}
 use Rattle.lists.specs.Checks.{when, first, first-nil, first-fires, first-passes}
-use Rattle.ranges.specs.declared.Range.{Range}
 use Rattle.ranges.specs.Ranges.{share, span}
 use Rattle.alignment.specs.declared.Spot.{Spot}
 use Rattle.alignment.specs.declared.Spot.the-variants.{Nowhere, At}
 use Rattle.alignment.specs.Multiples.{multiple, fits}
+use Rattle.rangelists.specs.declared.Allowed.{Allowed}
 use Rattle.rangelists.specs.Listed.{allowed}
 use Rattle.command.specs.Flags.{bit}
-use Rattle.blocks.specs.declared.Blocks.{Blocks}
-use Rattle.blocks.specs.Blocked.{blocked}
 use Rattle.placement.specs.declared.Blocked.{Blocked}
 use Rattle.placement.specs.Candidates.{blockedList, placeOf}
 use Rattle.table.specs.declared.Object.{Object}
 use Rattle.table.specs.declared.Mapping.{Mapping}
-use Rattle.table.specs.Records.{objectAt, ofSpace, extent}
+use Rattle.table.specs.Records.{objectAt}
 use Rattle.table.specs.Spaces.{alignment, reservedOf}
 use Rattle.lookups.specs.Settled.{checked, checked-last}
-use Rattle.facts.specs.Gathered.{Gathered}
 use Rattle.places.specs.declared.Target.{Target}
 use Rattle.places.specs.declared.Placing.{Placing}
 use Rattle.places.specs.Places.{blockedIn, automatic, isNowhere, spotAddress, taken, fixedChecks, automaticChecks, placeChecks, placeAt}
 use Rattle.places.specs.Placing.{placingOf, AutomaticPlaced, Placed}
 
 -- the checks of a fixed address
-pub fixed-is : (os : List Object) (s n x a r1 r2 r3 : ℕ) (mapped fit touched : Bool) (bs : Blocks) (q : Range) → a ≡ alignment os s → fit ≡ fits a x n → Gathered os bs → q ≡ span x n
-    → touched ≡ any (share q) (blocked s bs) → r1 ≡ first (when mapped 17 ∷ []) 0 → r2 ≡ first (when touched 22 ∷ []) r1 → r3 ≡ first (when (not fit) 22 ∷ []) r2
+pub fixed-is : (os : List Object) (s n x a r1 r2 r3 : ℕ) (mapped fit touched : Bool) → a ≡ alignment os s → fit ≡ fits a x n → touched ≡ any (share (span x n)) (reservedOf os s)
+    → r1 ≡ first (when mapped 17 ∷ []) 0 → r2 ≡ first (when touched 22 ∷ []) r1 → r3 ≡ first (when (not fit) 22 ∷ []) r2
     → r3 ≡ first (fixedChecks os s n x mapped) 0
 unfolding fixedChecks
-fixed-is os s n x a r1 r2 r3 mapped fit touched bs q ea ef g eq et e1 e2 e3 =
+fixed-is os s n x a r1 r2 r3 mapped fit touched ea ef et e1 e2 e3 =
     checked (not fit) (not (fits (alignment os s) x n)) 22 r3 r2 0 _ e3 (ap (λ (b : Bool). not b) (ef ∙ ap (λ (y : ℕ). fits y x n) ea))
-    (checked touched (any (share (span x n)) (reservedOf os s)) 22 r2 r1 0 _ e2 (et ∙ ap (λ (y : Range). any (share y) (blocked s bs)) eq ∙ ap (any (share (span x n))) (g .same s))
+    (checked touched (any (share (span x n)) (reservedOf os s)) 22 r2 r1 0 _ e2 et
     (checked-last mapped mapped 17 r1 0 e1 refl))
 
 -- what was found, as an errno with an address
@@ -67,12 +63,11 @@ module _ (os : List Object) (ms : List Mapping) (s n : ℕ) where
   }
 
   -- the lowest candidate
-  pub automatic-found : (a : ℕ) (b : Bool) (bs : Blocks) (bl : Blocked) (o : Object) (spot : Spot) (p : Placing) → a ≡ alignment os s → b ≡ multiple a n → b ≡ true → Gathered os bs
-      → blockedList bl ≡ blocked s bs ++ map extent (keep (ofSpace s) ms) → o ≡ objectAt os s → spot ≡ placeOf a n 0 (blockedList bl) (allowed (o .allow)) → p ≡ placingOf spot → AutomaticPlaced os ms s n p
-  unfolding automatic blockedIn
-  automatic-found a b bs bl o spot p ea eb e g el eo es ep =
-      let all : blockedList bl ≡ reservedOf os s ++ map extent (keep (ofSpace s) ms) = el ∙ ap (λ (rs : List Range). rs ++ map extent (keep (ofSpace s) ms)) (g .same s) in
-      let same : automatic os ms s n ≡ spot = sym (es ∙ rw (ea, all, eo)) in
+  pub automatic-found : (a : ℕ) (b : Bool) (bl : Blocked) (l : Allowed) (spot : Spot) (p : Placing) → a ≡ alignment os s → b ≡ multiple a n → b ≡ true
+      → blockedList bl ≡ blockedIn os ms s → l ≡ objectAt os s .allow → spot ≡ placeOf a n 0 (blockedList bl) (allowed l) → p ≡ placingOf spot → AutomaticPlaced os ms s n p
+  unfolding automatic
+  automatic-found a b bl l spot p ea eb e el eo es ep =
+      let same : automatic os ms s n ≡ spot = sym (es ∙ rw (ea, el, eo)) in
       rw ep (spot-placed (ap (λ (y : ℕ). multiple y n) (sym ea) ∙ sym eb ∙ e) spot same)
 
 -- the place of a target

@@ -1,12 +1,21 @@
 // Where a new mapping lands: at the address asked, or at the lowest candidate.
+ghost use mathlib.Core.List.{List};
 ghost use mathlib.Core.Path.{_≡_};
+ghost use Prim.Native.Nat.{ℕ};
 ghost use Rattle.lists.specs.Checks.{first};
-ghost use Rattle.places.specs.Places.{taken, fixedChecks};
-ghost use Rattle.places.specs.Placing.{Placed, placingOf, AutomaticPlaced};
+ghost use Rattle.lists.specs.Search.{any};
+ghost use Rattle.ranges.specs.Ranges.{span, share};
+ghost use Rattle.placement.specs.Candidates.{blockedList};
+ghost use Rattle.table.specs.declared.Object.{Object};
+ghost use Rattle.table.specs.declared.Mapping.{Mapping};
+ghost use Rattle.table.specs.Records.{objectAt};
+ghost use Rattle.table.specs.Spaces.{reservedOf, alignment};
+ghost use Rattle.places.specs.Places.{blockedIn, fixedChecks};
+ghost use Rattle.places.specs.Placing.{Placed, placingOf, AutomaticPlaced, Site};
 use alignment::Spot;
+use placement::Blocked;
 use placement::Want;
-use table::Mapping;
-use table::Object;
+use rangelists::Allowed;
 
 // The lowest address that an automatic mapping may get.
 const LOWEST_TRIED: u64 = 0;
@@ -25,14 +34,11 @@ pub struct Placing {
     pub address: u64,
 }
 
-// The checks of a fixed address. Whether a mapping is touched there is known from the survey of the records.
-fn fixed_errno(os: [Object; 32], s: u32, n: u64, x: u64, mapped: bool) -> u8
-    ensures { λ r. ⌜ r ≡ first (fixedChecks os s n x mapped) 0 ⌝ }
+// The checks of a fixed address in a space of alignment a. Whether it touches a reserved range or a mapping is known from the survey of the records.
+fn fixed_errno(a: u64, n: u64, x: u64, reserved: bool, mapped: bool) -> u8
+    ensures { λ r. ⌜ ((os : List Object) (s : ℕ) → a ≡ alignment os s → reserved ≡ any (share (span x n)) (reservedOf os s) → r ≡ first (fixedChecks os s n x mapped) 0) ⌝ }
 {
-    let a = lookups::alignment_of(os, s);
     let fit = alignment::is_fit(a, x, n);
-    let blocks = facts::blocks_of(os);
-    let reserved = blocks::is_blocked(blocks, s, ranges::span_of(x, n));
     command::refuse_if(
         !fit,
         22,
@@ -56,21 +62,16 @@ fn placing_of(spot: Spot) -> Placing
     }
 }
 
-// The lowest candidate for n bytes in space s.
-fn automatic_place(os: [Object; 32], ms: [Mapping; 128], s: u32, n: u64) -> Placing
-    ensures { λ p. ⌜ AutomaticPlaced os ms s n p ⌝ }
+// The lowest candidate for n bytes between what is blocked, inside the allow list.
+fn automatic_place(a: u64, allow: Allowed, blocked: Blocked, n: u64) -> Placing
+    ensures { λ p. ⌜ ((os : List Object) (ms : List Mapping) (s : ℕ) → a ≡ alignment os s → allow ≡ objectAt os s .allow → blockedList blocked ≡ blockedIn os ms s → AutomaticPlaced os ms s n p) ⌝ }
 {
-    let a = lookups::alignment_of(os, s);
     if !alignment::is_multiple(a, n) {
         return Placing {
             errno: 22,
             address: 0,
         };
     }
-    let blocks = facts::blocks_of(os);
-    let blocked = blocking::blocked_in(blocks, ms, s);
-    let o = lookups::object_at(os, s);
-    let allow = o.allow;
     let w = Want {
         alignment: a,
         length: n,
@@ -81,17 +82,22 @@ fn automatic_place(os: [Object; 32], ms: [Mapping; 128], s: u32, n: u64) -> Plac
     placing_of(spot)
 }
 
-// The place of a target. `mapped` tells whether a mapping of the space is touched at the address asked.
-pub fn place_for(os: [Object; 32], ms: [Mapping; 128], t: Target, mapped: bool) -> Placing
-    requires { ⌜ mapped ≡ taken ms (t .space) (t .length) (t .address) ⌝ }
-    ensures { λ p. ⌜ Placed os ms t p ⌝ }
+// The place of a target in a space with this alignment, allow list and blocked ranges. `reserved` and `mapped` tell what the range asked touches.
+pub fn place_for(
+    a: u64,
+    allow: Allowed,
+    blocked: Blocked,
+    t: Target,
+    reserved: bool,
+    mapped: bool,
+) -> Placing
+    ensures { λ p. ⌜ ((os : List Object) (ms : List Mapping) → Site os ms t a allow blocked reserved mapped → Placed os ms t p) ⌝ }
 {
-    let s = t.space;
     let n = t.length;
     let x = t.address;
     if command::is_fixed(t.flags) {
-        let errno = fixed_errno(os, s, n, x, mapped);
+        let errno = fixed_errno(a, n, x, reserved, mapped);
         return Placing { errno, address: x };
     }
-    automatic_place(os, ms, s, n)
+    automatic_place(a, allow, blocked, n)
 }

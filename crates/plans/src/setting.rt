@@ -3,7 +3,7 @@ ghost use mathlib.Core.Path.{_≡_};
 ghost use Prim.Native.Nat.{_+_, _*_, _≤_};
 ghost use lib.ListN.{length};
 ghost use Rattle.wire.specs.Fields.{field};
-ghost use Rattle.spaces.specs.Allow.{numberAt, column};
+ghost use Rattle.spaces.specs.Allow.{column};
 ghost use Rattle.plans.specs.Plan.{itemsEnd, reservedIn, deviceAt, pairAt, devices, pairs, planEnd, planOf};
 ghost use Rattle.plans.specs.Setting.{withSpace, withSpaces, withDevice, withDevices, withPair, withPairs, setUp};
 use crate::Section;
@@ -49,27 +49,16 @@ fn add_spaces(first: Table, n: u32) -> Setup
 
 // ---- devices
 
-// A number of range k, 0 from the count on.
-fn number_at(area: &[u8], off: usize, count: u32, k: usize) -> u64
-    requires { ⌜ (off ≤ 8) × (k ≤ 3) × (16 * count ≤ length (now area)) ⌝ }
-    ensures { λ x. ⌜ x ≡ numberAt off count k (now (area .entry)) ⌝ }
-{
-    if count as usize <= k {
-        return 0;
-    }
-    wire::read64(area, 16 * k + off)
-}
-
 // One number of each of 4 ranges.
 fn column_of(area: &[u8], off: usize, count: u32) -> [u64; 4]
     requires { ⌜ (off ≤ 8) × (16 * count ≤ length (now area)) ⌝ }
     ensures { λ a. ⌜ a ≡ column off count 0 4 (now (area .entry)) ⌝ }
 {
     [
-        number_at(area, off, count, 0),
-        number_at(area, off, count, 1),
-        number_at(area, off, count, 2),
-        number_at(area, off, count, 3),
+        spaces::area_number(area, off, count, 0),
+        spaces::area_number(area, off, count, 1),
+        spaces::area_number(area, off, count, 2),
+        spaces::area_number(area, off, count, 3),
     ]
 }
 

@@ -4,7 +4,6 @@ use crate::reading::reserved;
 use crate::replies::bytes;
 use crate::replies::result;
 use crate::stored;
-use edits::Answer;
 use lines::number;
 use lines::text;
 use lines::word;
@@ -17,10 +16,8 @@ pub fn answer(t: Table, operation: u32, body: &[u8]) -> Table {
         3 => attach(t, body),
         4 => detach(t, body),
         5 => reach(t, body),
-        6 | 13 | 14 | 15 => changing(t, operation, body),
-        7 => destroy(t, body),
-        8 => allow(t, body),
-        9 => ranges(t, body),
+        6 | 7 | 13 | 14 | 15 => command(t, operation, body),
+        8 | 9 => with_area(t, operation, body),
         10 => stored::mapping(t, body),
         11 => stored::object(t, body),
         12 => stored::limit(t, body),
@@ -34,7 +31,7 @@ fn unknown(t: Table) -> Table {
 }
 
 fn fresh(body: &[u8]) -> Table {
-    let a = edits::fresh(word(body, 0));
+    let a = iommufd::fresh(word(body, 0));
     text(b"fresh");
     result(a.result);
     a.table
@@ -42,21 +39,21 @@ fn fresh(body: &[u8]) -> Table {
 
 fn bind(t: Table, body: &[u8]) -> Table {
     let l = reserved(body, half(body, 2), 2);
-    let a = hostcalls::bind(t, word(body, 0), l);
+    let a = iommufd::bind(t, word(body, 0), l);
     text(b"bind");
     result(a.result);
     a.table
 }
 
 fn attach(t: Table, body: &[u8]) -> Table {
-    let a = hostcalls::attach(t, half(body, 0), half(body, 1));
+    let a = iommufd::attach(t, half(body, 0), half(body, 1));
     text(b"attach");
     result(a.result);
     a.table
 }
 
 fn detach(t: Table, body: &[u8]) -> Table {
-    let a = hostcalls::detach(t, half(body, 0));
+    let a = iommufd::detach(t, half(body, 0));
     text(b"detach");
     result(a.result);
     a.table
@@ -64,7 +61,7 @@ fn detach(t: Table, body: &[u8]) -> Table {
 
 fn reach(t: Table, body: &[u8]) -> Table {
     let write = half(body, 1) != 0;
-    let r = hostcalls::reach(t, half(body, 0), word(body, 1), word(body, 2), write);
+    let r = iommufd::reach(t, half(body, 0), word(body, 1), word(body, 2), write);
     text(b"reach");
     result(r.result);
     number(r.address);
@@ -72,82 +69,47 @@ fn reach(t: Table, body: &[u8]) -> Table {
 }
 
 // The body is the command. It is changed, so it is copied.
-fn changing(t: Table, operation: u32, body: &[u8]) -> Table {
+fn command(t: Table, operation: u32, body: &[u8]) -> Table {
     let mut cmd = [0u8; 64];
     let n = body.len();
     if 64 < n {
         return unknown(t);
     }
     fill(body, &mut cmd);
-    changing_on(t, operation, &mut cmd[..n])
+    command_on(t, operation, &mut cmd[..n])
 }
 
-fn changing_on(t: Table, operation: u32, cmd: &mut [u8]) -> Table {
+fn command_on(t: Table, operation: u32, cmd: &mut [u8]) -> Table {
     match operation {
-        6 => alloc(t, cmd),
-        13 => map(t, cmd),
-        14 => copy(t, cmd),
-        15 => unmap(t, cmd),
+        6 => replied(t, 0x3B81, b"alloc", cmd),
+        7 => destroy(t, cmd),
+        13 => replied(t, 0x3B85, b"map", cmd),
+        14 => replied(t, 0x3B83, b"copy", cmd),
+        15 => replied(t, 0x3B86, b"unmap", cmd),
         _ => unknown(t),
     }
 }
 
-fn alloc(t: Table, cmd: &mut [u8]) -> Table {
-    let a = spacecalls::ioas_alloc(t, cmd);
-    text(b"alloc");
-    replied(a, cmd)
-}
-
-fn map(t: Table, cmd: &mut [u8]) -> Table {
-    let a = mappingcalls::map(t, cmd);
-    text(b"map");
-    replied(a, cmd)
-}
-
-fn copy(t: Table, cmd: &mut [u8]) -> Table {
-    let a = mappingcalls::copy(t, cmd);
-    text(b"copy");
-    replied(a, cmd)
-}
-
-fn unmap(t: Table, cmd: &mut [u8]) -> Table {
-    let a = mappingcalls::unmap(t, cmd);
-    text(b"unmap");
-    replied(a, cmd)
-}
-
 // The result and the command after it.
-fn replied(a: Answer, cmd: &[u8]) -> Table {
+fn replied(t: Table, request: u32, name: &[u8], cmd: &mut [u8]) -> Table {
+    let mut none = [0u8; 1];
+    let a = iommufd::call(t, request, cmd, &mut none[..0]);
+    text(name);
     result(a.result);
     bytes(cmd);
     a.table
 }
 
-fn destroy(t: Table, body: &[u8]) -> Table {
-    let a = spacecalls::destroy(t, body);
+fn destroy(t: Table, cmd: &mut [u8]) -> Table {
+    let mut none = [0u8; 1];
+    let a = iommufd::call(t, 0x3B80, cmd, &mut none[..0]);
     text(b"destroy");
     result(a.result);
     a.table
 }
 
-// A u64 count of the command's bytes, the command, then the range area.
-fn allow(t: Table, body: &[u8]) -> Table {
-    if body.len() < 8 {
-        return unknown(t);
-    }
-    let n = wire::read64(body, 0) as usize;
-    if body.len() - 8 < n {
-        return unknown(t);
-    }
-    let end = 8 + n;
-    let a = spacecalls::allow_iovas(t, &body[8..end], &body[end..]);
-    text(b"allow");
-    result(a.result);
-    a.table
-}
-
-// The same. Both are changed, so both are copied.
-fn ranges(t: Table, body: &[u8]) -> Table {
+// A u64 count of the command's bytes, the command, then the range area. Both are changed, so both are copied.
+fn with_area(t: Table, operation: u32, body: &[u8]) -> Table {
     let mut cmd = [0u8; 64];
     let mut area = [0u8; 2048];
     if body.len() < 8 {
@@ -167,16 +129,26 @@ fn ranges(t: Table, body: &[u8]) -> Table {
     }
     fill(&body[8..end], &mut cmd);
     fill(&body[end..], &mut area);
-    ranges_on(t, &mut cmd[..n], &mut area[..m]);
-    t
+    if operation == 8 {
+        return allow(t, &mut cmd[..n], &mut area[..m]);
+    }
+    ranges(t, &mut cmd[..n], &mut area[..m])
 }
 
-fn ranges_on(t: Table, cmd: &mut [u8], area: &mut [u8]) {
-    let r = spacecalls::iova_ranges(t, cmd, area);
+fn allow(t: Table, cmd: &mut [u8], area: &mut [u8]) -> Table {
+    let a = iommufd::call(t, 0x3B82, cmd, area);
+    text(b"allow");
+    result(a.result);
+    a.table
+}
+
+fn ranges(t: Table, cmd: &mut [u8], area: &mut [u8]) -> Table {
+    let a = iommufd::call(t, 0x3B84, cmd, area);
     text(b"ranges");
-    result(r);
+    result(a.result);
     bytes(cmd);
     bytes(area);
+    a.table
 }
 
 // The bytes that both have place for.

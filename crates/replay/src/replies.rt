@@ -43,7 +43,7 @@ pub fn bytes(s: &[u8]) {
 
 // Whether the table is good, and the sums over all its numbers.
 pub fn ending(t: Table) {
-    truth(tablecheck::is_good(t));
+    truth(iommufd::is_good(t));
     let s = crate::sums::of_table(t);
     text(b" ");
     io::print_hex(STDOUT_FILENO, s.plain, 8);

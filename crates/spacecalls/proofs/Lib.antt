@@ -1,2 +1,2 @@
-pub mod Gating
+pub mod Deciding
 pub mod Replying

@@ -31,12 +31,18 @@ unfoldable pub allocBytes : Table → List ℕ → List ℕ
 allocBytes t bytes = replied 4 8 (allocCall t bytes .errno) (allocCall t bytes .value) bytes
 
 -- DESTROY: size, id
+abbrev pub destroyCall : Table → List ℕ → Edit
+destroyCall t bytes = settle (gateErrno t 0x3B80 bytes) (destroyEdit (t .objects) (field 4 bytes 4))
+
 unfoldable pub destroyAnswer : Table → List ℕ → Answer
-destroyAnswer t bytes = outcome t (settle (gateErrno t 0x3B80 bytes) (destroyEdit (t .objects) (field 4 bytes 4)))
+destroyAnswer t bytes = outcome t (destroyCall t bytes)
 
 -- ALLOW_IOVAS: size, space, count, reserved, pointer
+abbrev pub allowCall : Table → List ℕ → List ℕ → Edit
+allowCall t bytes area = settle (gateErrno t 0x3B82 bytes) (allowEdit (t .objects) (field 4 bytes 4) (field 4 bytes 8) (field 4 bytes 12) area)
+
 unfoldable pub allowAnswer : Table → List ℕ → List ℕ → Answer
-allowAnswer t bytes area = outcome t (settle (gateErrno t 0x3B82 bytes) (allowEdit (t .objects) (field 4 bytes 4) (field 4 bytes 8) (field 4 bytes 12) area))
+allowAnswer t bytes area = outcome t (allowCall t bytes area)
 
 -- IOVA_RANGES: size, space, count, reserved, pointer, alignment
 -- its reply: n is the full number of ranges, and what the command and the range area are after it

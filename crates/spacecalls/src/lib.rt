@@ -1,104 +1,91 @@
-// The four commands that place no mapping. Each takes any table and any bytes: a bad table is 117, then the opening, then the command's own
-// checks; the table that comes back is the one given where the command refuses.
+// IOAS_ALLOC, ALLOW_IOVAS and IOVA_RANGES past the gate: the fields of the command, what is decided, and the reply where there is one.
+ghost use mathlib.Core.List.{List};
 ghost use mathlib.Core.Path.{_≡_};
-ghost use Prim.Native.Nat.{_*_, _≤_, _<_};
+ghost use Prim.Native.Nat.{ℕ, _*_, _%_, _^_, _≤_};
 ghost use lib.ListN.{length};
+ghost use Rattle.rangelists.specs.Listed.{found};
+ghost use Rattle.wire.specs.Fields.{field};
+ghost use Rattle.table.specs.Records.{objectAt};
+ghost use Rattle.table.specs.Spaces.{alignment};
+ghost use Rattle.table.specs.Charge.{freeRecord};
+ghost use Rattle.edits.specs.Edits.{refuse};
 ghost use Rattle.edits.specs.Answers.{replied};
-ghost use Rattle.spacecalls.specs.Calls.{allocAnswer, allocBytes, destroyAnswer, allowAnswer, RangesReply, RangesDone, rangesResult, rangesReply, rangesWritten};
-use edits::Answer;
+ghost use Rattle.facts.specs.Gathered.{Gathered};
+ghost use Rattle.digests.specs.Digest.{Seen};
+ghost use Rattle.spaces.specs.Objects.{allocEdit};
+ghost use Rattle.spaces.specs.Allow.{allowEdit};
+ghost use Rattle.spacecalls.specs.Calls.{RangesReply, RangesDone};
+use blocks::Blocks;
+use digests::Digest;
+use edits::Edit;
+use rangelists::Found;
 use table::Object;
-use table::Table;
 
 // The new id, where there is one.
 fn write_id(cmd: &mut [u8], errno: u8, id: u64)
-    requires { ⌜ (12 ≤ length (now cmd)) × (id < 256) ⌝ }
-    ensures { λ _. ⌜ now (cmd .exit) ≡ replied 4 8 errno id (now (cmd .entry)) ⌝ }
+    requires { ⌜ 12 ≤ length (now cmd) ⌝ }
+    ensures { λ _. ⌜ now (cmd .exit) ≡ replied 4 8 errno (id % 2 ^ 32) (now (cmd .entry)) ⌝ }
 {
     if errno == 0 {
-        wire::write32(cmd, 8, id as u32);
+        wire::write32(cmd, 8, (id % 0x1_0000_0000) as u32);
     }
 }
 
-// IOAS_ALLOC: a new space.
-pub fn ioas_alloc(t: Table, cmd: &mut [u8]) -> Answer
-    ensures { λ a. ⌜ (a ≡ allocAnswer t (now (cmd .entry))) × (now (cmd .exit) ≡ allocBytes t (now (cmd .entry))) ⌝ }
+// IOAS_ALLOC: a new space in the lowest free record. Its id is written.
+pub fn alloc(free: Found, cmd: &mut [u8]) -> Edit
+    requires { ⌜ 12 ≤ length (now cmd) ⌝ }
+    ensures { λ e. ⌜ ((os : List Object) → length os ≡ 32 → free ≡ found (freeRecord os) → (e ≡ allocEdit os (field 4 (now (cmd .entry)) 4)) × (now (cmd .exit) ≡ replied 4 8 (e .errno) (e .value) (now (cmd .entry)))) ⌝ }
 {
-    let errno = tablecheck::gate(t, 0x3B81, cmd);
-    if errno != 0 {
-        return edits::refused(t, errno);
-    }
-    let os = t.objects;
-    let e = spaces::decide_alloc(os, wire::read32(cmd, 4));
+    let e = spaces::decide_alloc(free, wire::read32(cmd, 4));
     write_id(cmd, e.errno, e.value);
-    edits::settled(t, e)
+    e
 }
 
-// DESTROY: an object that nothing is attached to goes, a space with its mappings.
-pub fn destroy(t: Table, cmd: &[u8]) -> Answer
-    ensures { λ a. ⌜ a ≡ destroyAnswer t (now (cmd .entry)) ⌝ }
+// ALLOW_IOVAS: the allow list of a space, from the range area. o is the object of the id, b the reserved ranges of all spaces.
+pub fn allow(o: Object, b: Blocks, cmd: &[u8], area: &[u8]) -> Edit
+    requires { ⌜ 24 ≤ length (now cmd) ⌝ }
+    ensures { λ e. ⌜ ((os : List Object) → o ≡ objectAt os (field 4 (now (cmd .entry)) 4) → Gathered os b → e ≡ allowEdit os (field 4 (now (cmd .entry)) 4) (field 4 (now (cmd .entry)) 8) (field 4 (now (cmd .entry)) 12) (now (area .entry))) ⌝ }
 {
-    let errno = tablecheck::gate(t, 0x3B80, cmd);
-    if errno != 0 {
-        return edits::refused(t, errno);
-    }
-    let os = t.objects;
-    let e = spaces::decide_destroy(os, wire::read32(cmd, 4));
-    edits::settled(t, e)
-}
-
-// ALLOW_IOVAS: a space's allow list, from the range area.
-pub fn allow_iovas(t: Table, cmd: &[u8], area: &[u8]) -> Answer
-    ensures { λ a. ⌜ a ≡ allowAnswer t (now (cmd .entry)) (now (area .entry)) ⌝ }
-{
-    let errno = tablecheck::gate(t, 0x3B82, cmd);
-    if errno != 0 {
-        return edits::refused(t, errno);
-    }
-    let os = t.objects;
     let space = wire::read32(cmd, 4);
     let count = wire::read32(cmd, 8);
     let zero = wire::read32(cmd, 12);
-    let e = spaces::decide_allow(os, space, count, zero, area);
-    edits::settled(t, e)
+    spaces::decide_allow(o, b, space, count, zero, area)
 }
 
-// The reply of IOVA_RANGES: the full number of ranges and the alignment, and as many ranges as there is room for. The answer is that number.
-fn write_ranges(os: [Object; 32], space: u32, count: u32, cmd: &mut [u8], area: &mut [u8]) -> usize
+// The reply of IOVA_RANGES: the full number of ranges and the alignment a, and as many ranges as there is room for. The answer is that number.
+fn write_ranges(b: Blocks, a: u64, space: u32, count: u32, cmd: &mut [u8], area: &mut [u8]) -> usize
     requires { ⌜ (32 ≤ length (now cmd)) × (16 * count ≤ length (now area)) ⌝ }
-    ensures { λ n. ⌜ RangesReply os space count n (now (cmd .entry)) (now (cmd .exit)) (now (area .entry)) (now (area .exit)) ⌝ }
+    ensures { λ n. ⌜ ((os : List Object) → Gathered os b → a ≡ alignment os space → RangesReply os space count n (now (cmd .entry)) (now (cmd .exit)) (now (area .entry)) (now (area .exit))) ⌝ }
 {
-    let blocks = facts::blocks_of(os);
-    let alignment = lookups::alignment_of(os, space);
-    let full = freeranges::write_free_of(blocks, space, count as usize, area);
+    let full = freeranges::write_free_of(b, space, count as usize, area);
     wire::write32(cmd, 8, full as u32);
-    wire::write64(cmd, 24, alignment);
+    wire::write64(cmd, 24, a);
     full
 }
 
-// IOVA_RANGES past the gate: the errno, and the reply where there is one.
-fn answer_ranges(os: [Object; 32], cmd: &mut [u8], area: &mut [u8]) -> u8
+// The errno of IOVA_RANGES, and the reply where there is one.
+fn answer_ranges(d: Digest, cmd: &mut [u8], area: &mut [u8]) -> u8
     requires { ⌜ 32 ≤ length (now cmd) ⌝ }
-    ensures { λ n. ⌜ RangesDone os n (now (cmd .entry)) (now (cmd .exit)) (now (area .entry)) (now (area .exit)) ⌝ }
+    ensures { λ n. ⌜ ((os : List Object) (b : ℕ) → Seen os (field 4 (now (cmd .entry)) 4) b d → RangesDone os n (now (cmd .entry)) (now (cmd .exit)) (now (area .entry)) (now (area .exit))) ⌝ }
 {
     let space = wire::read32(cmd, 4);
     let count = wire::read32(cmd, 8);
     let zero = wire::read32(cmd, 12);
-    let refused = spaces::ranges_errno(os, space, count, zero, area.len());
+    let first = d.first;
+    let k = first.kind;
+    let refused = spaces::ranges_errno(table::is_space(k), count, zero, area.len());
     if refused != 0 {
         return refused;
     }
-    let full = write_ranges(os, space, count, cmd, area);
+    let blocks = d.blocks;
+    let full = write_ranges(blocks, d.alignment, space, count, cmd, area);
     command::refuse_if((count as usize) < full, 90, 0)
 }
 
-// IOVA_RANGES: what no attached device reserves, as the fewest ascending ranges, with the alignment.
-pub fn iova_ranges(t: Table, cmd: &mut [u8], area: &mut [u8]) -> i32
-    ensures { λ r. ⌜ (r ≡ rangesResult t (now (cmd .entry)) (now (area .entry))) × (now (cmd .exit) ≡ rangesReply t (now (cmd .entry)) (now (area .entry))) × (now (area .exit) ≡ rangesWritten t (now (cmd .entry)) (now (area .entry))) ⌝ }
+// IOVA_RANGES: what no attached device reserves, as the fewest ascending ranges, with the alignment. It changes no table: its edit carries the errno alone.
+pub fn ranges(d: Digest, cmd: &mut [u8], area: &mut [u8]) -> Edit
+    requires { ⌜ 32 ≤ length (now cmd) ⌝ }
+    ensures { λ e. ⌜ ((os : List Object) (b : ℕ) → Seen os (field 4 (now (cmd .entry)) 4) b d → (e ≡ refuse (e .errno)) × RangesDone os (e .errno) (now (cmd .entry)) (now (cmd .exit)) (now (area .entry)) (now (area .exit))) ⌝ }
 {
-    let errno = tablecheck::gate(t, 0x3B84, cmd);
-    if errno != 0 {
-        return command::signed_result(errno);
-    }
-    let os = t.objects;
-    command::signed_result(answer_ranges(os, cmd, area))
+    edits::refusal(answer_ranges(d, cmd, area))
 }

@@ -1,21 +1,21 @@
--- The list of an area, and the devices that it may touch.
-use Prim.Native.Nat.{ℕ, _+_, _-_, _*_, _≤_, _<_}
+-- The list of an area, and the blocks that it may touch.
+use Prim.Native.Nat.{ℕ, _+_, _-_, _*_, _≤_, _<_, min}
 use mathlib.Core.Path.{_≡_, refl, sym, ap, _∙_}
-use mathlib.Core.Bool.{Bool, true, false, _||_}
+use mathlib.Core.Bool.{Bool, false, _||_}
 use mathlib.Core.List.{List, [], _∷_}
 use native.Mathlib.Omega.{arith}
 use lib.ListN.{length}
 use borrow.Author.Tests.{lt-ltb, le-ltb, ltb-false}
-use Rattle.lists.specs.Search.{any, any-nil}
+use Rattle.lists.specs.Search.{any}
 use Rattle.lists.specs.Checks.{when, first, first-append, first-stays, first-goes, Refusals, passed}
 use Rattle.ranges.specs.declared.Range.{Range}
 use Rattle.ranges.specs.Ranges.{share}
 use Rattle.rangelists.specs.declared.Allowed.{Allowed}
-use Rattle.rangelists.specs.Listed.{reserved}
+use Rattle.blocks.specs.declared.Blocks.{Blocks}
+use Rattle.blocks.specs.Blocked.{leftFor, blocked, left-start}
 use Rattle.wire.specs.Fields.{field}
 use Rattle.table.specs.declared.Object.{Object}
-use Rattle.table.specs.Records.{freeObject, isFree, isAttached, objectAt, attachedTo}
-use Rattle.table.specs.Spaces.{reservedFor, reservedOf, any-reservedOf}
+use Rattle.table.specs.Records.{freeObject, isFree, isSpace, isAttached, objectAt, spaceAt, attachedTo}
 use Rattle.table.specs.Good.{listsTouch}
 use Rattle.edits.specs.declared.Change.{Change}
 use Rattle.edits.specs.declared.Change.the-variants.{Put}
@@ -23,7 +23,7 @@ use Rattle.edits.specs.declared.Edit.{Edit}
 use Rattle.edits.specs.Edits.{accept}
 use Rattle.lookups.specs.Settled.{checked, checked-last}
 use Rattle.spaces.specs.Objects.{inUse, destroyChecks, removal}
-use Rattle.spaces.specs.Allow.{numberAt, column, areaList, touchesList, withAllow, numberChecks, listChecks, allowChecks}
+use Rattle.spaces.specs.Allow.{numberAt, column, areaList, withAllow, numberChecks, listChecks, allowChecks}
 
 module _ (off n k : ℕ) (area : List ℕ) where
   pub number-none : n ≤ k → 0 ≡ numberAt off n k area
@@ -45,19 +45,11 @@ pub eight : (a b c d e f g h : ℕ) (p q r s t u v w : ℕ) → a ≡ p → b �
     → _≡_ {A = List ℕ} (a ∷ b ∷ c ∷ d ∷ e ∷ f ∷ g ∷ h ∷ []) (p ∷ q ∷ r ∷ s ∷ t ∷ u ∷ v ∷ w ∷ [])
 eight a b c d e f g h p q r s t u v w ea eb ec ed ee ef eg eh = rw (ea, eb, ec, ed, ee, ef, eg, eh)
 
-module _ (s : ℕ) (qs : List Range) (o : Object) where
-  pub not-there : attachedTo s (o .kind) ≡ false → false ≡ touchesList s qs o
-  unfolding touchesList reservedFor listsTouch
-  not-there e = sym (rw e (any-nil (λ r. any (share r) qs)))
-
-  pub there : {b : Bool} → attachedTo s (o .kind) ≡ true → b ≡ listsTouch (reserved (o .reserved)) qs → b ≡ touchesList s qs o
-  unfolding touchesList reservedFor
-  there e f = f ∙ sym (rw e)
-
--- a loop over the objects: what is left from place i on answers for the whole
-pub touched-start : (os : List Object) (s : ℕ) (qs : List Range) → any (touchesList s qs) os ≡ listsTouch (reservedOf os s) qs
-unfolding touchesList listsTouch
-touched-start os s qs = sym (any-reservedOf (λ r. any (share r) qs) os s)
+-- a loop over the blocks: at place 0 all are left
+pub touched-start : (b : Blocks) (s n : ℕ) (qs : List Range) → n ≡ min (b .count) 128
+    → any (λ r. any (share r) qs) (leftFor n s (b .spaces) (b .starts) (b .lasts) 0) ≡ listsTouch (blocked s b) qs
+unfolding blocked listsTouch
+touched-start b s n qs e = rw e (ap (any (λ r. any (share r) qs)) (left-start (min (b .count) 128) s (b .spaces) (b .starts) (b .lasts)))
 
 -- an allow list by its two columns
 pub list-is : (n : ℕ) (a b p q : List ℕ) → a ≡ p → b ≡ q → _≡_ {A = Allowed} record { count = n; starts = a; lasts = b } record { count = n; starts = p; lasts = q }
@@ -80,6 +72,15 @@ module _ (os : List Object) (id : ℕ) (o : Object) (e : o ≡ objectAt os id) w
   destroy-edit r c i n ei ec en er = er ∙ rw (ec, ei, en) (ap (λ (x : Object). accept 0 (removal (x .kind) (id - 1)) freeObject) e)
 
 -- ---- ALLOW_IOVAS: the checks on the numbers, then those on the list
+
+-- an object says itself whether it is a space, and stands so in a list of one
+pub known-at : (os : List Object) (s : ℕ) (o : Object) (b : Bool) → o ≡ objectAt os s → b ≡ isSpace (o .kind) → b ≡ spaceAt os s
+unfolding spaceAt
+known-at os s o b e h = h ∙ ap (λ (x : Object). isSpace (x .kind)) e
+
+pub known-alone : (o : Object) (b : Bool) → b ≡ isSpace (o .kind) → b ≡ spaceAt (o ∷ []) 1
+unfolding spaceAt objectAt
+known-alone o b h = h
 
 module _ (os : List Object) (s count z : ℕ) (area : List ℕ) where
   numbers-refuse : Refusals (numberChecks os s count z (length area)) 0

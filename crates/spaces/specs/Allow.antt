@@ -1,18 +1,17 @@
 -- ALLOW_IOVAS: reserved field 95; no space 2; count over 8: 12; range area short 14; a start above its last, or two ranges that overlap: 22;
 -- a range that touches reserved: 98. The list is replaced, in the order given; count 0 empties it.
 use Prim.Native.Nat.{ℕ, zero, suc, _+_, _-_, _*_}
-use mathlib.Core.Bool.{Bool, not, _||_, cond}
+use mathlib.Core.Bool.{not, _||_, cond}
 use mathlib.Core.List.{List, [], _∷_, _++_}
 use lib.Dec.{ltb, eqb}
 use lib.ListN.{length}
 use Rattle.lists.specs.Checks.{Check, when, first}
-use Rattle.ranges.specs.declared.Range.{Range}
 use Rattle.rangelists.specs.declared.Allowed.{Allowed}
 use Rattle.rangelists.specs.Listed.{allowed, valid, overlap}
 use Rattle.wire.specs.Fields.{field}
 use Rattle.table.specs.declared.Object.{Object}
 use Rattle.table.specs.Records.{objectAt, spaceAt}
-use Rattle.table.specs.Spaces.{reservedFor, reservedOf}
+use Rattle.table.specs.Spaces.{reservedOf}
 use Rattle.table.specs.Good.{listsTouch}
 use Rattle.edits.specs.declared.Change.the-variants.{Put}
 use Rattle.edits.specs.declared.Edit.{Edit}
@@ -30,10 +29,6 @@ column off n k (suc room) area = numberAt off n k area ∷ column off n (k + 1) 
 -- the list of the first count ranges of the area
 unfoldable pub areaList : ℕ → List ℕ → Allowed
 areaList count area = record { count = count; starts = column 0 count 0 8 area; lasts = column 8 count 0 8 area }
-
--- a device attached to the space with a range that touches the list
-unfoldable pub touchesList : ℕ → List Range → Object → Bool
-touchesList s qs o = listsTouch (reservedFor s o) qs
 
 unfoldable pub withAllow : Object → Allowed → Object
 withAllow o l = record { kind = o .kind; bitmap = o .bitmap; reserved = o .reserved; allow = l }

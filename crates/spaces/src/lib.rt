@@ -1,29 +1,41 @@
 // What the commands on spaces decide over a good table.
+ghost use mathlib.Core.Bool.{_&&_};
+ghost use mathlib.Core.List.{List};
 ghost use mathlib.Core.Path.{_≡_};
-ghost use Prim.Native.Nat.{_+_, _-_, _*_, _≤_, _<_};
+ghost use Prim.Native.Nat.{ℕ, _+_, _-_, _*_, _≤_, _<_};
+ghost use lib.Dec.{eqb};
 ghost use lib.ListN.{length};
 ghost use Rattle.lists.specs.Checks.{first};
-ghost use Rattle.rangelists.specs.Listed.{allowed};
-ghost use Rattle.table.specs.Spaces.{reservedOf};
+ghost use Rattle.lists.specs.Search.{any};
+ghost use Rattle.ranges.specs.Ranges.{share};
+ghost use Rattle.rangelists.specs.Listed.{found, allowed};
+ghost use Rattle.blocks.specs.Blocked.{blocked};
+ghost use Rattle.table.specs.Records.{attachedTo, objectAt, spaceAt};
+ghost use Rattle.table.specs.Charge.{freeRecord};
 ghost use Rattle.table.specs.Good.{listsTouch};
+ghost use Rattle.facts.specs.Gathered.{Gathered};
 ghost use Rattle.spaces.specs.Objects.{allocEdit, removal, destroyEdit};
-ghost use Rattle.spaces.specs.Allow.{numberAt, column, areaList, touchesList, withAllow, numberChecks, listChecks, allowEdit};
+ghost use Rattle.spaces.specs.Allow.{numberAt, column, areaList, withAllow, numberChecks, listChecks, allowEdit};
 ghost use Rattle.spaces.specs.Ranges.{rangesChecks};
+use blocks::Blocks;
 use edits::Change;
 use edits::Edit;
 use rangelists::Allowed;
+use rangelists::Found;
+use ranges::Range;
 use table::Kind;
 use table::Object;
 
-pub fn decide_alloc(os: [Object; 32], flags: u32) -> Edit
-    ensures { λ e. ⌜ e ≡ allocEdit os flags ⌝ }
+// free is the lowest free record.
+pub fn decide_alloc(free: Found, flags: u32) -> Edit
+    ensures { λ e. ⌜ ((os : List Object) → length os ≡ 32 → free ≡ found (freeRecord os) → e ≡ allocEdit os flags) ⌝ }
 {
     let errno = command::refuse_if(flags != 0, 95, 0);
     if errno != 0 {
         return edits::refusal(errno);
     }
     let object = edits::new_space();
-    lookups::place_new(os, object)
+    lookups::place_new(free, object)
 }
 
 // The place of an id: 0 for an id that no record has.
@@ -43,12 +55,12 @@ fn removal_of(k: Kind, i: usize) -> Change
     }
 }
 
-pub fn decide_destroy(os: [Object; 32], id: u32) -> Edit
-    ensures { λ e. ⌜ e ≡ destroyEdit os id ⌝ }
+// o is the object of the id; held says whether a device is attached to it.
+pub fn decide_destroy(o: Object, held: bool, id: u32) -> Edit
+    ensures { λ e. ⌜ ((os : List Object) → o ≡ objectAt os id → held ≡ any (λ x. attachedTo id (x .kind)) os → e ≡ destroyEdit os id) ⌝ }
 {
-    let o = lookups::object_at(os, id);
     let k = o.kind;
-    let used = command::either(table::is_attached(k), lookups::has_device(os, id));
+    let used = command::either(table::is_attached(k), held);
     let errno = command::refuse_if(table::is_free(k), 2, command::refuse_if(used, 16, 0));
     if errno != 0 {
         return edits::refusal(errno);
@@ -59,7 +71,7 @@ pub fn decide_destroy(os: [Object; 32], id: u32) -> Edit
 }
 
 // A number of range k of the area, 0 from the count on.
-fn area_number(area: &[u8], off: usize, count: u32, k: usize) -> u64
+pub fn area_number(area: &[u8], off: usize, count: u32, k: usize) -> u64
     requires { ⌜ (off ≤ 8) × (k < 8) × (16 * count ≤ length (now area)) ⌝ }
     ensures { λ x. ⌜ x ≡ numberAt off count k (now (area .entry)) ⌝ }
 {
@@ -100,26 +112,28 @@ fn area_list(area: &[u8], count: u32) -> Allowed
     }
 }
 
-// Whether the object is a device attached to the space with a range that touches the list.
-fn device_touches(o: Object, s: u32, l: Allowed) -> bool
-    ensures { λ b. ⌜ b ≡ touchesList s (allowed l) o ⌝ }
+// Whether a block of space `key` is one of space s and touches the list.
+fn block_touches(key: u32, s: u32, block: Range, l: Allowed) -> bool
+    ensures { λ r. ⌜ r ≡ (eqb key s && any (share block) (allowed l)) ⌝ }
 {
-    let k = o.kind;
-    if !table::attached_to(k, s) {
+    if key != s {
         return false;
     }
-    let r = o.reserved;
-    table::lists_touch(r, l)
+    rangelists::is_found(rangelists::allowed_touched(l, block))
 }
 
 // Whether a reserved range of the space touches the list.
-fn reserved_touches(os: [Object; 32], s: u32, l: Allowed) -> bool
-    ensures { λ b. ⌜ b ≡ listsTouch (reservedOf os s) (allowed l) ⌝ }
+fn reserved_touches(b: Blocks, s: u32, l: Allowed) -> bool
+    ensures { λ r. ⌜ r ≡ listsTouch (blocked s b) (allowed l) ⌝ }
 {
+    let n = blocks::used(b.count);
     let mut i: usize = 0;
-    while i < 32 {
-        let o = os[i];
-        if device_touches(o, s, l) {
+    while i < n {
+        let block = Range {
+            start: b.starts[i],
+            last: b.lasts[i],
+        };
+        if block_touches(b.spaces[i], s, block, l) {
             return true;
         }
         i += 1;
@@ -140,10 +154,10 @@ fn with_allow(o: Object, l: Allowed) -> Object
     }
 }
 
-fn number_errno(os: [Object; 32], space: u32, count: u32, zero: u32, room: usize) -> u8
-    ensures { λ r. ⌜ r ≡ first (numberChecks os space count zero room) 0 ⌝ }
+// known says whether the id is that of a space.
+fn number_errno(known: bool, count: u32, zero: u32, room: usize) -> u8
+    ensures { λ r. ⌜ ((os : List Object) (space : ℕ) → known ≡ spaceAt os space → r ≡ first (numberChecks os space count zero room) 0) ⌝ }
 {
-    let known = lookups::space_at(os, space);
     command::refuse_if(
         zero != 0,
         95,
@@ -159,38 +173,38 @@ fn number_errno(os: [Object; 32], space: u32, count: u32, zero: u32, room: usize
     )
 }
 
-fn list_errno(os: [Object; 32], space: u32, l: Allowed) -> u8
-    ensures { λ r. ⌜ r ≡ first (listChecks os space l) 0 ⌝ }
+fn list_errno(b: Blocks, space: u32, l: Allowed) -> u8
+    ensures { λ r. ⌜ ((os : List Object) → Gathered os b → r ≡ first (listChecks os space l) 0) ⌝ }
 {
     let wrong = command::either(
         !rangelists::allowed_valid(l),
         rangelists::allowed_overlap(l),
     );
-    let touches = reserved_touches(os, space, l);
+    let touches = reserved_touches(b, space, l);
     command::refuse_if(wrong, 22, command::refuse_if(touches, 98, 0))
 }
 
-pub fn decide_allow(os: [Object; 32], space: u32, count: u32, zero: u32, area: &[u8]) -> Edit
-    ensures { λ e. ⌜ e ≡ allowEdit os space count zero (now (area .entry)) ⌝ }
+// o is the object of the id, b the reserved ranges of all spaces.
+pub fn decide_allow(o: Object, b: Blocks, space: u32, count: u32, zero: u32, area: &[u8]) -> Edit
+    ensures { λ e. ⌜ ((os : List Object) → o ≡ objectAt os space → Gathered os b → e ≡ allowEdit os space count zero (now (area .entry))) ⌝ }
 {
-    let first = number_errno(os, space, count, zero, area.len());
+    let k = o.kind;
+    let first = number_errno(table::is_space(k), count, zero, area.len());
     if first != 0 {
         return edits::refusal(first);
     }
     let l = area_list(area, count);
-    let errno = list_errno(os, space, l);
+    let errno = list_errno(b, space, l);
     if errno != 0 {
         return edits::refusal(errno);
     }
-    let o = lookups::object_at(os, space);
     edits::acceptance(0, Change::Put(place_of(space)), with_allow(o, l))
 }
 
 // The checks of IOVA_RANGES; 0 where it replies.
-pub fn ranges_errno(os: [Object; 32], space: u32, count: u32, zero: u32, room: usize) -> u8
-    ensures { λ r. ⌜ r ≡ first (rangesChecks os space count zero room) 0 ⌝ }
+pub fn ranges_errno(known: bool, count: u32, zero: u32, room: usize) -> u8
+    ensures { λ r. ⌜ ((os : List Object) (space : ℕ) → known ≡ spaceAt os space → r ≡ first (rangesChecks os space count zero room) 0) ⌝ }
 {
-    let known = lookups::space_at(os, space);
     command::refuse_if(
         zero != 0,
         95,

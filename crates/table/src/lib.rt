@@ -27,7 +27,8 @@ pub struct Object {
     pub allow: Allowed,
 }
 
-// Numbers only. A released record has space 0. Rights: bit 0 write, bit 1 read. Founder is 1 where the founding MAP was writeable.
+// Numbers only, and laid out as C lays them out. A released record has space 0. Rights: bit 0 write, bit 1 read. Founder is 1 where the founding MAP was writeable.
+#[repr(C)]
 pub struct Mapping {
     pub space: u32,
     pub rights: u32,

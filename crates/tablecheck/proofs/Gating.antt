@@ -1,5 +1,5 @@
 -- What each return of a command gives: a refusal at the gate, or the outcome of the edit that was decided, with its reply.
-use Prim.Native.Nat.{ℕ, zero, suc, _≤_}
+use Prim.Native.Nat.{ℕ, _≤_}
 use mathlib.Core.Path.{_≡_, refl, sym, ap, _∙_}
 use mathlib.Core.Bool.{Bool, true, false}
 use mathlib.Core.List.{List}
@@ -16,22 +16,10 @@ use Rattle.command.proofs.Lookups.{listed}
 use Rattle.wire.specs.Fields.{put}
 use Rattle.table.specs.declared.Table.{Table}
 use Rattle.table.specs.Good.{good}
-use Rattle.edits.specs.declared.Edit.{Edit}
-use Rattle.edits.specs.declared.Answer.{Answer}
-use Rattle.edits.specs.Edits.{settle, applied}
-use Rattle.edits.specs.Answers.{refusedBy, outcome, replied}
+use Rattle.edits.specs.Answers.{outcome, replied}
 use Rattle.tablecheck.specs.Gate.{gateErrno}
 
 -- ---- the gate
-
-module _ (t : Table) (n : ℕ) (bytes : List ℕ) where
-  pub gate-bad : good t ≡ false → 117 ≡ gateErrno t n bytes
-  unfolding gateErrno
-  gate-bad e = rw e
-
-  pub gate-good : {m : ℕ} (o : Opening) → good t ≡ true → o ≡ opened n bytes → m ≡ openingErrno o → m ≡ gateErrno t n bytes
-  unfolding gateErrno
-  gate-good o e f h = h ∙ rw (e, f)
 
 open-of : (o : Opening) → openingErrno o ≡ 0 → (c : Command) × (o ≡ Open c)
 open-of UnknownRequest e = absurd (omega arith)
@@ -62,17 +50,6 @@ gate-size t d bytes e = go (good t) refl (opened (requestOf d .number) bytes) re
         omega (arith, same-size (w .0) d (k .number), k .known, k .lent)
     go false g o f = let z : _≡_ {A = ℕ} 0 117 = e ∙ rw g in absurd (omega (arith, z))
 
--- ---- the outcome
-
-pub gate-refused : (t : Table) (n m : ℕ) (e : Edit) (a : Answer) → n ≡ m → (n ≡ 0 → ⊥) → a ≡ refusedBy t n → a ≡ outcome t (settle m e)
-unfolding refusedBy outcome applied
-gate-refused t n zero e a s h k = absurd (h s)
-gate-refused t n (suc m) e a s h k = k ∙ rw s
-
-pub gate-passed : (t : Table) (n m : ℕ) (e f : Edit) (a : Answer) → n ≡ m → n ≡ 0 → f ≡ e → a ≡ outcome t f → a ≡ outcome t (settle m e)
-gate-passed t n zero e f a s h k r = r ∙ ap (outcome t) k
-gate-passed t n (suc m) e f a s h k r = absurd (omega arith)
-
 -- ---- the reply
 
 module _ (size off n value : ℕ) (bytes : List ℕ) where
@@ -83,18 +60,3 @@ module _ (size off n value : ℕ) (bytes : List ℕ) where
   pub replied-none : (n ≡ 0 → ⊥) → bytes ≡ replied size off n value bytes
   unfolding replied
   replied-none e = rw (ne-eqb n 0 e)
-
--- a call with a reply: m is the errno of the gate, e what is decided past it
-module _ (t : Table) (size off : ℕ) (bytes : List ℕ) (n m : ℕ) (e : Edit) (a : Answer) (s : n ≡ m) where
-  pub reply-refused : (n ≡ 0 → ⊥) → a ≡ refusedBy t n → (a ≡ outcome t (settle m e)) × (bytes ≡ replied size off (settle m e .errno) (settle m e .value) bytes)
-  reply-refused h k = (gate-refused t n m e a s h k, unwritten m (λ z. h (s ∙ z)))
-    where
-      unwritten : (m : ℕ) → (m ≡ 0 → ⊥) → bytes ≡ replied size off (settle m e .errno) (settle m e .value) bytes
-      unwritten zero h = absurd (h refl)
-      unwritten (suc m) h = replied-none size off (suc m) 0 bytes h
-
-  pub reply-done : (f : Edit) (now : List ℕ) → n ≡ 0 → f ≡ e → a ≡ outcome t f → now ≡ replied size off (f .errno) (f .value) bytes
-      → (a ≡ outcome t (settle m e)) × (now ≡ replied size off (settle m e .errno) (settle m e .value) bytes)
-  reply-done f now h k r w =
-      let same : f ≡ settle m e = k ∙ sym (ap (λ (x : ℕ). settle x e) (sym s ∙ h)) in
-      (r ∙ ap (outcome t) same, w ∙ ap (λ (x : Edit). replied size off (x .errno) (x .value) bytes) same)

@@ -1,24 +1,28 @@
-// What runs before every call: whether a table is good, and for a command its opening. The check of a table: what mappings need of the objects is gathered once, then each record is looked at by itself,
-// then backings and charge in one pass, then pairs.
+// What runs before every call: whether a table is good. What mappings need of the objects is in the digest; then each record is looked at by
+// itself, then backings and charge in one pass, then pairs.
+ghost use mathlib.Core.List.{List};
 ghost use mathlib.Core.Path.{_≡_};
+ghost use Prim.Native.Nat.{ℕ};
+ghost use lib.ListN.{length};
 ghost use Rattle.table.specs.Good.{good};
-ghost use Rattle.tablecheck.specs.Gate.{gateErrno};
+ghost use Rattle.digests.specs.Digest.{DigestOf};
+ghost use Rattle.tablecheck.specs.Gate.{tableWith};
+use digests::Digest;
 use records::Charged;
-use table::Table;
+use table::Mapping;
+use table::Object;
 
-pub fn is_good(t: Table) -> bool
-    ensures { λ b. ⌜ b ≡ good t ⌝ }
+pub fn is_good(limit: u64, d: Digest, ms: [Mapping; 128]) -> bool
+    ensures { λ r. ⌜ ((os : List Object) (a b : ℕ) → length os ≡ 32 → DigestOf os a b d → r ≡ good (tableWith limit os ms)) ⌝ }
 {
-    let os = t.objects;
-    if !objects::objects_good(os) {
+    if !d.good {
         return false;
     }
-    let ms = t.mappings;
-    let pages = objects::pages_of(os);
+    let pages = d.pages;
     if !records::records_alone(pages, ms) {
         return false;
     }
-    let blocks = facts::blocks_of(os);
+    let blocks = d.blocks;
     if !facts::mappings_clear(blocks, ms) {
         return false;
     }
@@ -26,21 +30,11 @@ pub fn is_good(t: Table) -> bool
     let Charged::Sum(sum) = c else {
         return false;
     };
-    if t.limit < sum {
+    if limit < sum {
         return false;
     }
-    if 0x10_0000_0000 < t.limit {
+    if 0x10_0000_0000 < limit {
         return false;
     }
     !records::some_together(ms)
-}
-
-// 117 for a bad table, then the errno of the opening; 0 where the command is open.
-pub fn gate(t: Table, request: u32, cmd: &[u8]) -> u8
-    ensures { λ n. ⌜ n ≡ gateErrno t request (now (cmd .entry)) ⌝ }
-{
-    if !is_good(t) {
-        return 117;
-    }
-    command::opening_errno(command::open(request, cmd))
 }

@@ -1,15 +1,18 @@
 // What UNMAP decides over a good table. One pass tells whether a mapping is cut, whether one goes, and the bytes: nothing is removed before.
 ghost use mathlib.Core.Bool.{true};
+ghost use mathlib.Core.List.{List};
 ghost use mathlib.Core.Path.{_≡_};
+ghost use Prim.Native.Nat.{ℕ};
 ghost use Rattle.lists.specs.Each.{Each};
 ghost use Rattle.lists.specs.Checks.{first};
+ghost use Rattle.table.specs.declared.Object.{Object};
+ghost use Rattle.table.specs.Records.{spaceAt};
 ghost use Rattle.table.specs.Checked.{recordOk};
 ghost use Rattle.unmapping.specs.Unmap.{asksAll, rangeAsked, unmapNumberChecks, removalBy, unmapEdit};
 use edits::Change;
 use edits::Edit;
 use ranges::Range;
 use table::Mapping;
-use table::Object;
 
 fn asks_all(a: u64, n: u64) -> bool
     ensures { λ b. ⌜ b ≡ asksAll a n ⌝ }
@@ -30,11 +33,10 @@ fn range_asked(a: u64, n: u64) -> Range
     ranges::span_of(a, n)
 }
 
-fn unmap_number_errno(os: [Object; 32], s: u32, a: u64, n: u64) -> u8
-    ensures { λ r. ⌜ r ≡ first (unmapNumberChecks os s a n) 0 ⌝ }
+fn unmap_number_errno(known: bool, a: u64, n: u64) -> u8
+    ensures { λ r. ⌜ ((os : List Object) (s : ℕ) → known ≡ spaceAt os s → r ≡ first (unmapNumberChecks os s a n) 0) ⌝ }
 {
     let past = ranges::passes_max(a, n);
-    let known = lookups::space_at(os, s);
     command::refuse_if(
         n == 0,
         22,
@@ -50,11 +52,11 @@ fn removal_errno(all: bool, cut: bool, some: bool) -> u8
     command::refuse_if(cut, 2, command::refuse_if(none, 2, 0))
 }
 
-pub fn decide_unmap(os: [Object; 32], ms: [Mapping; 128], s: u32, a: u64, n: u64) -> Edit
-    requires { ⌜ Each (λ m. recordOk os m ≡ true) ms ⌝ }
-    ensures { λ e. ⌜ e ≡ unmapEdit os ms s a n ⌝ }
+pub fn decide_unmap(known: bool, ms: [Mapping; 128], s: u32, a: u64, n: u64) -> Edit
+    requires { ⌜ ((os : List Object) × Each (λ m. recordOk os m ≡ true) ms) ⌝ }
+    ensures { λ e. ⌜ ((os : List Object) → known ≡ spaceAt os s → e ≡ unmapEdit os ms s a n) ⌝ }
 {
-    let wrong = unmap_number_errno(os, s, a, n);
+    let wrong = unmap_number_errno(known, a, n);
     if wrong != 0 {
         return edits::refusal(wrong);
     }

@@ -1,10 +1,9 @@
 -- The checks in order.
-use mathlib.Core.Path.{ap, _∙_}
+use mathlib.Core.Path.{ap}
 use mathlib.Core.Bool.{Bool, not}
-use Prim.Native.Nat.{ℕ}
-use Rattle.lists.specs.Search.{any}
 use Rattle.lookups.specs.Settled.{checked, checked-last}
-use Rattle.devices.specs.Attach.{misfits, attachChecks}
+use Rattle.devices.specs.Attach.{attachChecks}
+use Rattle.devices.proofs.Attaching.{attach-home, attach-blocked, attach-misfit}
 use borrow.Author.Needs.{needs}
 use Rattle.devices.proofs.attach_errno.Statement.{statement}
 use Rattle.devices.proofs.attach_errno.Tie as tie
@@ -15,20 +14,23 @@ is-device-requires c κs = search needs
 is-attached-requires : tie.Need-is-attached-requires
 is-attached-requires c κs = search needs
 
-space-at-requires : tie.Need-space-at-requires
-space-at-requires c κs = search needs
+is-space-requires : tie.Need-is-space-requires
+is-space-requires c κs = search needs
 
 touches-mapping-requires : tie.Need-touches-mapping-requires
 touches-mapping-requires c κs = search needs
 
-list-blocked-requires : tie.Need-list-blocked-requires
-list-blocked-requires c κs = search needs
+lists-touch-requires : tie.Need-lists-touch-requires
+lists-touch-requires c κs = search needs
 
 either-requires : tie.Need-either-requires
 either-requires c κs = search needs
 
-alignment-with-requires : tie.Need-alignment-with-requires
-alignment-with-requires c κs = search needs
+smallest-page-requires : tie.Need-smallest-page-requires
+smallest-page-requires c κs = search needs
+
+higher-requires : tie.Need-higher-requires
+higher-requires c κs = search needs
 
 some-misfit-requires : tie.Need-some-misfit-requires
 some-misfit-requires c κs = search needs
@@ -50,7 +52,12 @@ refuse-if-requires-5 c κs = search needs
 
 returns : tie.Need-returns
 unfolding attachChecks
-returns c = checked _ _ _ _ _ _ _ (c .refuse-if5 .ensures) (ap (λ (b : Bool). not b) (c .before .before .before .before .before .before .before .before .before .before .before .before .is-device .ensures)) (checked _ _ _ _ _ _ _ (c .before .refuse-if4 .ensures) (ap (λ (b : Bool). not b) (c .before .before .before .before .before .before .before .before .before .before .space-at .ensures)) (checked _ _ _ _ _ _ _ (c .before .before .refuse-if3 .ensures) (c .before .before .before .before .before .before .before .before .before .before .before .is-attached .ensures) (checked _ _ _ _ _ _ _ (c .before .before .before .refuse-if2 .ensures) (rw (c .before .before .before .before .before .before .before .either .ensures, c .before .before .before .before .before .before .before .before .list-blocked .ensures, c .before .before .before .before .before .before .before .before .before .touches-mapping .ensures)) (checked-last _ _ _ _ _ (c .before .before .before .before .refuse-if .ensures) (c .before .before .before .before .before .some-misfit .ensures ∙ ap (λ (a : ℕ). any (misfits (c .before .before .before .before .before .before .before .before .before .before .before .before .before .before .args .s) a) (c .before .before .before .before .before .before .before .before .before .before .before .before .before .before .args .ms)) (c .before .before .before .before .before .before .alignment-with .ensures))))))
+returns c = λ os eh ea.
+    checked _ _ _ _ _ _ _ (c .refuse-if5 .ensures) (ap (λ (b : Bool). not b) (c .before .before .before .before .before .before .before .before .before .before .before .before .before .is-device .ensures))
+    (checked _ _ _ _ _ _ _ (c .before .refuse-if4 .ensures) (attach-home os _ _ _ eh ea _ (c .before .before .before .before .before .before .before .before .before .before .before .is-space .ensures))
+    (checked _ _ _ _ _ _ _ (c .before .before .refuse-if3 .ensures) (c .before .before .before .before .before .before .before .before .before .before .before .before .is-attached .ensures)
+    (checked _ _ _ _ _ _ _ (c .before .before .before .refuse-if2 .ensures) (attach-blocked os _ _ _ eh ea _ _ _ _ _ (c .before .before .before .before .before .before .before .before .before .before .touches-mapping .ensures) (c .before .before .before .before .before .before .before .before .before .lists-touch .ensures) (c .before .before .before .before .before .before .before .before .either .ensures))
+    (checked-last _ _ _ _ _ (c .before .before .before .before .refuse-if .ensures) (attach-misfit os _ _ _ eh ea _ _ _ _ _ (c .before .before .before .before .before .before .before .smallest-page .ensures) (c .before .before .before .before .before .before .higher .ensures) (c .before .before .before .before .before .some-misfit .ensures))))))
 
 pub attach-errno-spec : {M : Type 1} → statement M
 attach-errno-spec =
@@ -58,11 +65,12 @@ attach-errno-spec =
     (tie.spec
     is-device-requires
     is-attached-requires
-    space-at-requires
+    is-space-requires
     touches-mapping-requires
-    list-blocked-requires
+    lists-touch-requires
     either-requires
-    alignment-with-requires
+    smallest-page-requires
+    higher-requires
     some-misfit-requires
     refuse-if-requires
     refuse-if-requires-2

@@ -18,7 +18,7 @@ refusal-requires c κs = search needs
 
 returns : tie.Need-returns
 unfolding bindEdit
-returns c = settle-refused _ _ _ _ (c .before .before .bind-errno .ensures) (c .before .if1 .taken) (c .refusal .ensures)
+returns c = λ os l e. settle-refused _ _ _ _ (c .before .before .bind-errno .ensures) (c .before .if1 .taken) (c .refusal .ensures)
 
 new-device-requires : tie.Need-new-device-requires
 new-device-requires c κs = search needs
@@ -28,7 +28,7 @@ place-new-requires c κs = search needs
 
 returns-2 : tie.Need-returns-2
 unfolding bindEdit
-returns-2 c = settle-taken _ _ _ _ (c .before .before .before .bind-errno .ensures) (omega arith) (c .place-new .ensures ∙ ap (λ (o : Object). placed (freeRecord (c .before .before .before .before .args .os)) o) (c .before .new-device .ensures))
+returns-2 c = λ os l e. settle-taken _ _ _ _ (c .before .before .before .bind-errno .ensures) (omega arith) (c .place-new .ensures os l e ∙ ap (λ (o : Object). placed (freeRecord os) o) (c .before .new-device .ensures))
 
 pub decide-bind-spec : {M : Type 1} → statement M
 decide-bind-spec =

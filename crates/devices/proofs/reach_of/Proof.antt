@@ -9,14 +9,11 @@ use borrow.Author.Needs.{needs}
 use Rattle.devices.proofs.reach_of.Statement.{statement}
 use Rattle.devices.proofs.reach_of.Tie as tie
 
-object-at-requires : tie.Need-object-at-requires
-object-at-requires c κs = search needs
-
 reach-errno-requires : tie.Need-reach-errno-requires
 reach-errno-requires c κs = search needs
 
 returns : tie.Need-returns
-returns c = reach-refused _ _ _ _ _ _ _ (c .before .before .object-at .ensures) _ (c .before .reach-errno .ensures) (c .if1 .taken)
+returns c = λ os d e. reach-refused os _ d _ _ _ _ e _ (c .before .reach-errno .ensures) (c .if1 .taken)
 
 home-of-requires : tie.Need-home-of-requires
 home-of-requires c κs = search needs
@@ -34,19 +31,18 @@ enum-told : tie.Need-enum-told
 enum-told c = search needs
 
 returns-2 : tie.Need-returns-2
-returns-2 c = reach-nowhere _ _ _ _ _ _ _ (c .before .before .before .before .before .before .before .object-at .ensures) _ (c .before .before .before .before .before .before .reach-errno .ensures) _ _ _ (omega arith) (c .before .before .before .before .home-of .ensures) (c .before .before .before .span-of .ensures) (c .before .before .find-around .ensures) (c .enum-told .given .1)
+returns-2 c = λ os d e. reach-nowhere os _ d _ _ _ _ e _ (c .before .before .before .before .before .before .reach-errno .ensures) _ _ _ (omega arith) (c .before .before .before .before .home-of .ensures) (c .before .before .before .span-of .ensures) (c .before .before .find-around .ensures) (c .enum-told .given .1)
 
 reach-in-requires : tie.Need-reach-in-requires
-reach-in-requires c κs = around-fits _ _ _ _ _ _ (c .before .before .before .find-around .ensures ∙ ap (λ (r : Range). held (around (c .before .before .before .before .before .before .before .before .before .args .ms) (c .before .before .before .before .before .home-of .result) r)) (c .before .before .before .before .span-of .ensures)) _ (c .before .f .given .1) (omega arith) (c .before .before .before .before .before .before .before .before .before .pre)
+reach-in-requires c κs = let s = c .before .before .before .before .before .before .before .before in around-fits (s .pre .0) _ _ _ _ _ (c .before .before .before .find-around .ensures ∙ ap (λ (r : Range). held (around (s .args .ms) (c .before .before .before .before .before .home-of .result) r)) (c .before .before .before .before .span-of .ensures)) _ (c .before .f .given .1) (omega arith) (s .pre .1)
 
 returns-3 : tie.Need-returns-3
-returns-3 c = reach-found _ _ _ _ _ _ _ (c .before .before .before .before .before .before .before .before .before .object-at .ensures) _ (c .before .before .before .before .before .before .before .before .reach-errno .ensures) _ _ _ (omega arith) (c .before .before .before .before .before .before .home-of .ensures) (c .before .before .before .before .before .span-of .ensures) (c .before .before .before .before .find-around .ensures) _ _ (c .before .before .f .given .1) (c .reach-in .ensures)
+returns-3 c = λ os d e. reach-found os _ d _ _ _ _ e _ (c .before .before .before .before .before .before .before .before .reach-errno .ensures) _ _ _ (omega arith) (c .before .before .before .before .before .before .home-of .ensures) (c .before .before .before .before .before .span-of .ensures) (c .before .before .before .before .find-around .ensures) _ _ (c .before .before .f .given .1) (c .reach-in .ensures)
 
 pub reach-of-spec : {M : Type 1} → statement M
 reach-of-spec =
     tie.close
     (tie.spec
-    object-at-requires
     reach-errno-requires
     returns
     home-of-requires

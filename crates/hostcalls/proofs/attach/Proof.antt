@@ -1,39 +1,23 @@
--- 117, or the outcome.
-use mathlib.Core.Path.{sym, _∙_}
-use borrow.Author.Tests.{not-true, not-false}
+-- The edit, applied.
+use mathlib.Core.Path.{_∙_}
 use Rattle.hostcalls.specs.Calls.{attachCall}
-use Rattle.hostcalls.proofs.Guarding.{bad-table, good-table}
+use Rattle.hostcalls.specs.Orders.{hostEdit}
 use borrow.Author.Needs.{needs}
 use Rattle.hostcalls.proofs.attach.Statement.{statement}
 use Rattle.hostcalls.proofs.attach.Tie as tie
 
-is-good-requires : tie.Need-is-good-requires
-is-good-requires c κs = search needs
+attach-order-requires : tie.Need-attach-order-requires
+attach-order-requires c κs = search needs
 
-refused-requires : tie.Need-refused-requires
-refused-requires c κs = search needs
-
-returns : tie.Need-returns
-unfolding attachCall
-returns c = bad-table _ _ _ (sym (c .before .before .is-good .ensures) ∙ not-true _ (c .before .if1 .taken)) (c .refused .ensures)
-
-decide-attach-requires : tie.Need-decide-attach-requires
-decide-attach-requires c κs = search needs
+decided-requires : tie.Need-decided-requires
+decided-requires c κs = search needs
 
 settled-requires : tie.Need-settled-requires
 settled-requires c κs = search needs
 
-returns-2 : tie.Need-returns-2
-unfolding attachCall
-returns-2 c = good-table _ _ _ _ (sym (c .before .before .before .before .before .is-good .ensures) ∙ not-false _ (c .before .before .before .before .if1 .left)) (c .before .decide-attach .ensures) (c .settled .ensures)
+returns : tie.Need-returns
+unfolding attachCall hostEdit
+returns c = c .settled .ensures ∙ rw (c .before .decided .ensures, c .before .before .attach-order .ensures)
 
 pub attach-spec : {M : Type 1} → statement M
-attach-spec =
-    tie.close
-    (tie.spec
-    is-good-requires
-    refused-requires
-    returns
-    decide-attach-requires
-    settled-requires
-    returns-2)
+attach-spec = tie.close (tie.spec attach-order-requires decided-requires settled-requires returns)

@@ -1,11 +1,15 @@
 -- The numbers, the place or the room refused, or the mapping is made.
 use Rattle.surveys.specs.Surveyed.{records-numbered}
+use Rattle.mappings.specs.Sites.{known-is}
 use Rattle.mappings.proofs.Deciding.{by-numbers, by-place, by-room, by-making}
 use Rattle.mappings.proofs.Staging.{touched-is}
 use Rattle.mappings.proofs.Making.{backing-fits}
 use borrow.Author.Needs.{needs}
 use Rattle.mappings.proofs.decide_map.Statement.{statement}
 use Rattle.mappings.proofs.decide_map.Tie as tie
+
+is-space-requires : tie.Need-is-space-requires
+is-space-requires c κs = search needs
 
 map-number-errno-requires : tie.Need-map-number-errno-requires
 map-number-errno-requires c κs = search needs
@@ -14,22 +18,22 @@ refusal-requires : tie.Need-refusal-requires
 refusal-requires c κs = search needs
 
 returns : tie.Need-returns
-returns c = by-numbers _ _ _ (c .before .before .before .args .t) _ _ _ _ (c .before .before .map-number-errno .ensures) (c .before .if1 .taken) (c .refusal .ensures)
+returns c = λ os b h. by-numbers _ os _ (c .before .before .before .before .before .args .t) _ _ _ _ (c .before .before .map-number-errno .ensures os (known-is os (c .before .before .before .before .before .args .ms) (c .before .before .before .before .before .args .t) b (c .before .before .before .before .before .args .d) h _ (c .before .before .before .is-space .ensures))) (c .before .if1 .taken) (c .refusal .ensures)
 
 span-of-requires : tie.Need-span-of-requires
 span-of-requires c κs = search needs
 
 survey-of-requires : tie.Need-survey-of-requires
-survey-of-requires c κs = records-numbered _ _ (c .before .before .before .pre)
+survey-of-requires c κs = records-numbered (c .before .before .before .before .before .pre .0) _ (c .before .before .before .before .before .pre .1)
 
-place-for-requires : tie.Need-place-for-requires
-place-for-requires c κs = touched-is _ _ _ _ _ _ (c .before .span-of .ensures) (c .survey-of .ensures)
+place-in-requires : tie.Need-place-in-requires
+place-in-requires c κs = search needs
 
 refusal-requires-2 : tie.Need-refusal-requires-2
 refusal-requires-2 c κs = search needs
 
 returns-2 : tie.Need-returns-2
-returns-2 c = by-place _ _ _ (c .before .before .before .before .before .before .before .before .args .t) _ _ _ (c .before .before .before .before .before .before .before .map-number-errno .ensures) (c .before .before .before .before .before .before .if1 .left) _ (c .before .before .before .place-for .ensures) _ (c .before .if2 .taken) (c .refusal2 .ensures)
+returns-2 c = λ os b h. by-place _ os _ (c .before .before .before .before .before .before .before .before .before .before .args .t) _ _ _ (c .before .before .before .before .before .before .before .map-number-errno .ensures os (known-is os (c .before .before .before .before .before .before .before .before .before .before .args .ms) (c .before .before .before .before .before .before .before .before .before .before .args .t) b (c .before .before .before .before .before .before .before .before .before .before .args .d) h _ (c .before .before .before .before .before .before .before .before .is-space .ensures))) (c .before .before .before .before .before .before .if1 .left) _ (c .before .before .before .place-in .ensures os b h (touched-is _ _ _ _ _ _ (c .before .before .before .before .before .span-of .ensures) (c .before .before .before .before .survey-of .ensures))) _ (c .before .if2 .taken) (c .refusal2 .ensures)
 
 pages-touched-requires : tie.Need-pages-touched-requires
 pages-touched-requires c κs = search needs
@@ -41,7 +45,7 @@ refusal-requires-3 : tie.Need-refusal-requires-3
 refusal-requires-3 c κs = search needs
 
 returns-3 : tie.Need-returns-3
-returns-3 c = by-room _ _ _ (c .before .before .before .before .before .before .before .before .before .before .before .args .t) _ _ _ (c .before .before .before .before .before .before .before .before .before .before .map-number-errno .ensures) (c .before .before .before .before .before .before .before .before .before .if1 .left) _ (c .before .before .before .before .before .before .place-for .ensures) (c .before .before .before .before .if2 .left) _ _ (c .before .before .before .before .before .before .before .survey-of .ensures) _ _ (c .before .before .before .pages-touched .ensures .0) (c .before .before .room-errno .ensures) _ (c .before .if3 .taken) (c .refusal3 .ensures)
+returns-3 c = λ os b h. by-room _ os _ (c .before .before .before .before .before .before .before .before .before .before .before .before .before .args .t) _ _ _ (c .before .before .before .before .before .before .before .before .before .before .map-number-errno .ensures os (known-is os (c .before .before .before .before .before .before .before .before .before .before .before .before .before .args .ms) (c .before .before .before .before .before .before .before .before .before .before .before .before .before .args .t) b (c .before .before .before .before .before .before .before .before .before .before .before .before .before .args .d) h _ (c .before .before .before .before .before .before .before .before .before .before .before .is-space .ensures))) (c .before .before .before .before .before .before .before .before .before .if1 .left) _ (c .before .before .before .before .before .before .place-in .ensures os b h (touched-is _ _ _ _ _ _ (c .before .before .before .before .before .before .before .before .span-of .ensures) (c .before .before .before .before .before .before .before .survey-of .ensures))) (c .before .before .before .before .if2 .left) _ _ (c .before .before .before .before .before .before .before .survey-of .ensures) _ _ (c .before .before .before .pages-touched .ensures .0) (c .before .before .room-errno .ensures) _ (c .before .if3 .taken) (c .refusal3 .ensures)
 
 number-in-requires : tie.Need-number-in-requires
 number-in-requires c κs = backing-fits _ _ _ _ (c .before .before .before .before .before .before .survey-of .ensures)
@@ -53,18 +57,19 @@ put-new-requires : tie.Need-put-new-requires
 put-new-requires c κs = search needs
 
 returns-4 : tie.Need-returns-4
-returns-4 c = by-making _ _ _ (c .before .before .before .before .before .before .before .before .before .before .before .before .before .args .t) _ _ _ (c .before .before .before .before .before .before .before .before .before .before .before .before .map-number-errno .ensures) (c .before .before .before .before .before .before .before .before .before .before .before .if1 .left) _ (c .before .before .before .before .before .before .before .before .place-for .ensures) (c .before .before .before .before .before .before .if2 .left) _ _ (c .before .before .before .before .before .before .before .before .before .survey-of .ensures) _ _ (c .before .before .before .before .before .pages-touched .ensures .0) (c .before .before .before .before .room-errno .ensures) _ _ _ (c .before .before .before .if3 .left) (c .before .before .number-in .ensures) (c .before .founded .ensures) (c .put-new .ensures)
+returns-4 c = λ os b h. by-making _ os _ (c .before .before .before .before .before .before .before .before .before .before .before .before .before .before .before .args .t) _ _ _ (c .before .before .before .before .before .before .before .before .before .before .before .before .map-number-errno .ensures os (known-is os (c .before .before .before .before .before .before .before .before .before .before .before .before .before .before .before .args .ms) (c .before .before .before .before .before .before .before .before .before .before .before .before .before .before .before .args .t) b (c .before .before .before .before .before .before .before .before .before .before .before .before .before .before .before .args .d) h _ (c .before .before .before .before .before .before .before .before .before .before .before .before .before .is-space .ensures))) (c .before .before .before .before .before .before .before .before .before .before .before .if1 .left) _ (c .before .before .before .before .before .before .before .before .place-in .ensures os b h (touched-is _ _ _ _ _ _ (c .before .before .before .before .before .before .before .before .before .before .span-of .ensures) (c .before .before .before .before .before .before .before .before .before .survey-of .ensures))) (c .before .before .before .before .before .before .if2 .left) _ _ (c .before .before .before .before .before .before .before .before .before .survey-of .ensures) _ _ (c .before .before .before .before .before .pages-touched .ensures .0) (c .before .before .before .before .room-errno .ensures) _ _ _ (c .before .before .before .if3 .left) (c .before .before .number-in .ensures) (c .before .founded .ensures) (c .put-new .ensures)
 
 pub decide-map-spec : {M : Type 1} → statement M
 decide-map-spec =
     tie.close
     (tie.spec
+    is-space-requires
     map-number-errno-requires
     refusal-requires
     returns
     span-of-requires
     survey-of-requires
-    place-for-requires
+    place-in-requires
     refusal-requires-2
     returns-2
     pages-touched-requires

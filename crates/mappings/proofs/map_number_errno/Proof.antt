@@ -1,4 +1,4 @@
--- The checks in their order.
+-- Check by check.
 use Rattle.mappings.proofs.Making.{numbers-are}
 use borrow.Author.Needs.{needs}
 use Rattle.mappings.proofs.map_number_errno.Statement.{statement}
@@ -22,9 +22,6 @@ passes-max-requires c κs = search needs
 fixed-passes-requires : tie.Need-fixed-passes-requires
 fixed-passes-requires c κs = search needs
 
-space-at-requires : tie.Need-space-at-requires
-space-at-requires c κs = search needs
-
 refuse-if-requires : tie.Need-refuse-if-requires
 refuse-if-requires c κs = search needs
 
@@ -44,7 +41,7 @@ refuse-if-requires-6 : tie.Need-refuse-if-requires-6
 refuse-if-requires-6 c κs = search needs
 
 returns : tie.Need-returns
-returns c = numbers-are _ _ _ _ _ _ _ _ _ _ _ _ _ _ _ _ _ _ _ _ (c .before .before .before .before .before .before .before .before .before .before .before .before .has-unknown .ensures) (c .before .before .before .before .before .before .before .before .before .before .before .either .ensures) (c .before .before .before .before .before .before .before .before .before .before .has-no-right .ensures) (c .before .before .before .before .before .before .before .before .before .is-wrong-length .ensures) (c .before .before .before .before .before .before .before .before .passes-max .ensures) (c .before .before .before .before .before .before .before .fixed-passes .ensures) (c .before .before .before .before .before .before .space-at .ensures) (c .before .before .before .before .before .refuse-if .ensures) (c .before .before .before .before .refuse-if2 .ensures) (c .before .before .before .refuse-if3 .ensures) (c .before .before .refuse-if4 .ensures) (c .before .refuse-if5 .ensures) (c .refuse-if6 .ensures)
+returns c = λ os k. numbers-are os _ _ _ _ _ _ _ _ _ _ _ _ _ _ _ _ _ _ _ (c .before .before .before .before .before .before .before .before .before .before .before .has-unknown .ensures) (c .before .before .before .before .before .before .before .before .before .before .either .ensures) (c .before .before .before .before .before .before .before .before .before .has-no-right .ensures) (c .before .before .before .before .before .before .before .before .is-wrong-length .ensures) (c .before .before .before .before .before .before .before .passes-max .ensures) (c .before .before .before .before .before .before .fixed-passes .ensures) k (c .before .before .before .before .before .refuse-if .ensures) (c .before .before .before .before .refuse-if2 .ensures) (c .before .before .before .refuse-if3 .ensures) (c .before .before .refuse-if4 .ensures) (c .before .refuse-if5 .ensures) (c .refuse-if6 .ensures)
 
 pub map-number-errno-spec : {M : Type 1} → statement M
 map-number-errno-spec =
@@ -56,7 +53,6 @@ map-number-errno-spec =
     is-wrong-length-requires
     passes-max-requires
     fixed-passes-requires
-    space-at-requires
     refuse-if-requires
     refuse-if-requires-2
     refuse-if-requires-3

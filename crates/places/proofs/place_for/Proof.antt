@@ -11,13 +11,13 @@ fixed-errno-requires : tie.Need-fixed-errno-requires
 fixed-errno-requires c κs = search needs
 
 returns : tie.Need-returns
-returns c = fixed-placed _ _ _ _ _ _ (c .before .before .is-fixed .ensures) (c .before .if1 .taken) (c .before .before .before .pre) (c .fixed-errno .ensures)
+returns c = λ os ms s. fixed-placed os ms _ _ _ _ (c .before .before .is-fixed .ensures) (c .before .if1 .taken) (s .mapped) (c .fixed-errno .ensures os _ (s .alignment) (s .reserved))
 
 automatic-place-requires : tie.Need-automatic-place-requires
 automatic-place-requires c κs = search needs
 
 returns-2 : tie.Need-returns-2
-returns-2 c = automatic-placed _ _ _ _ _ (c .before .before .is-fixed .ensures) (c .before .if1 .left) (c .automatic-place .ensures)
+returns-2 c = λ os ms s. automatic-placed os ms _ _ _ (c .before .before .is-fixed .ensures) (c .before .if1 .left) (c .automatic-place .ensures os ms _ (s .alignment) (s .allow) (s .blocked))
 
 pub place-for-spec : {M : Type 1} → statement M
 place-for-spec =

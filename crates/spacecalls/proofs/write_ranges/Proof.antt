@@ -5,17 +5,11 @@ use borrow.Author.Needs.{needs}
 use Rattle.spacecalls.proofs.write_ranges.Statement.{statement}
 use Rattle.spacecalls.proofs.write_ranges.Tie as tie
 
-blocks-of-requires : tie.Need-blocks-of-requires
-blocks-of-requires c κs = search needs
-
-alignment-of-requires : tie.Need-alignment-of-requires
-alignment-of-requires c κs = search needs
-
 write-free-of-requires : tie.Need-write-free-of-requires
 write-free-of-requires c κs = search needs
 
 cast-write32 : tie.Need-cast-write32
-cast-write32 c = omega (arith, full-small _ _ (c .before .before .before .before .before .before .blocks-of .ensures) _ _ (c .before .before .before .write-free-of .ensures .0))
+cast-write32 c = omega (arith, full-small (c .before .before .before .before .before .before .before .args .b) _ _ (c .before .before .before .write-free-of .ensures .0))
 
 write32-requires : tie.Need-write32-requires
 write32-requires c κs = search needs
@@ -30,14 +24,12 @@ same-length-2 : tie.Need-same-length-2
 same-length-2 c = search needs
 
 returns : tie.Need-returns
-returns c = replied _ _ (c .before .before .before .before .before .before .before .before .before .before .before .before .before .blocks-of .ensures) _ _ _ _ _ _ _ _ _ (c .before .before .before .before .before .before .before .before .before .before .write-free-of .ensures .0) (c .before .before .before .before .before .before .before .before .before .before .write-free-of .ensures .1) (c .before .before .before .before .before .before .before .before .before .before .before .before .alignment-of .ensures) (c .before .before .before .before .before .before .write32 .ensures) (c .before .before .write64 .ensures)
+returns c = λ os g e. replied os _ g _ _ _ _ _ _ _ _ _ (c .before .before .before .before .before .before .before .before .before .before .write-free-of .ensures .0) (c .before .before .before .before .before .before .before .before .before .before .write-free-of .ensures .1) e (c .before .before .before .before .before .before .write32 .ensures) (c .before .before .write64 .ensures)
 
 pub write-ranges-spec : {M : Type 1} → statement M
 write-ranges-spec =
     tie.close
     (tie.spec
-    blocks-of-requires
-    alignment-of-requires
     write-free-of-requires
     cast-write32
     write32-requires

@@ -18,7 +18,7 @@ refusal-requires c κs = search needs
 
 returns : tie.Need-returns
 unfolding allocEdit allocChecks
-returns c = settle-refused _ _ _ _ (checked-last _ _ _ _ _ (c .before .before .refuse-if .ensures) refl) (c .before .if1 .taken) (c .refusal .ensures)
+returns c = λ os l e. settle-refused _ _ _ _ (checked-last _ _ _ _ _ (c .before .before .refuse-if .ensures) refl) (c .before .if1 .taken) (c .refusal .ensures)
 
 new-space-requires : tie.Need-new-space-requires
 new-space-requires c κs = search needs
@@ -28,7 +28,7 @@ place-new-requires c κs = search needs
 
 returns-2 : tie.Need-returns-2
 unfolding allocEdit allocChecks
-returns-2 c = settle-taken _ _ _ _ (checked-last _ _ _ _ _ (c .before .before .before .refuse-if .ensures) refl) (omega arith) (c .place-new .ensures ∙ ap (λ (o : Object). placed (freeRecord (c .before .before .before .before .args .os)) o) (c .before .new-space .ensures))
+returns-2 c = λ os l e. settle-taken _ _ _ _ (checked-last _ _ _ _ _ (c .before .before .before .refuse-if .ensures) refl) (omega arith) (c .place-new .ensures os l e ∙ ap (λ (o : Object). placed (freeRecord os) o) (c .before .new-space .ensures))
 
 pub decide-alloc-spec : {M : Type 1} → statement M
 decide-alloc-spec =

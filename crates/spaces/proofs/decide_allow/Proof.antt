@@ -1,11 +1,15 @@
 -- A refusal by the numbers, one by the list, or the new list.
 use mathlib.Core.Path.{sym, _∙_}
+use mathlib.Core.List.{[], _∷_}
 use Rattle.lookups.specs.Settled.{settle-refused, settle-taken}
 use Rattle.spaces.specs.Allow.{allowEdit}
-use Rattle.spaces.proofs.Listing.{by-numbers, by-list, area-holds, allow-edit}
+use Rattle.spaces.proofs.Listing.{known-at, known-alone, by-numbers, by-list, area-holds, allow-edit}
 use borrow.Author.Needs.{needs}
 use Rattle.spaces.proofs.decide_allow.Statement.{statement}
 use Rattle.spaces.proofs.decide_allow.Tie as tie
+
+is-space-requires : tie.Need-is-space-requires
+is-space-requires c κs = search needs
 
 number-errno-requires : tie.Need-number-errno-requires
 number-errno-requires c κs = search needs
@@ -15,10 +19,10 @@ refusal-requires c κs = search needs
 
 returns : tie.Need-returns
 unfolding allowEdit
-returns c = settle-refused _ _ _ _ (by-numbers _ _ _ _ _ _ (c .before .before .number-errno .ensures) (c .before .if1 .taken)) (c .before .if1 .taken) (c .refusal .ensures)
+returns c = λ os eo g. settle-refused _ _ _ _ (by-numbers os _ _ _ _ _ (c .before .before .number-errno .ensures os _ (known-at os _ _ _ eo (c .before .before .before .is-space .ensures))) (c .before .if1 .taken)) (c .before .if1 .taken) (c .refusal .ensures)
 
 area-list-requires : tie.Need-area-list-requires
-area-list-requires c κs = area-holds (c .before .before .before .args .os) (c .before .before .before .args .space) (c .before .before .before .args .count) (c .before .before .before .args .zero) (c .before .before .before .args .area .now) (sym (c .if1 .left) ∙ c .before .number-errno .ensures)
+area-list-requires c κs = let a = c .before .before .before .before .args in area-holds (a .o ∷ []) 1 (a .count) (a .zero) (a .area .now) (sym (c .if1 .left) ∙ c .before .number-errno .ensures (a .o ∷ []) 1 (known-alone _ _ (c .before .before .is-space .ensures)))
 
 list-errno-requires : tie.Need-list-errno-requires
 list-errno-requires c κs = search needs
@@ -28,10 +32,7 @@ refusal-requires-2 c κs = search needs
 
 returns-2 : tie.Need-returns-2
 unfolding allowEdit
-returns-2 c = settle-refused _ _ _ _ (by-list _ _ _ _ _ _ _ (sym (c .before .before .before .before .if1 .left) ∙ c .before .before .before .before .before .number-errno .ensures) (c .before .before .before .area-list .ensures) (c .before .before .list-errno .ensures)) (c .before .if2 .taken) (c .refusal2 .ensures)
-
-object-at-requires : tie.Need-object-at-requires
-object-at-requires c κs = search needs
+returns-2 c = λ os eo g. settle-refused _ _ _ _ (by-list os _ _ _ _ _ _ (sym (c .before .before .before .before .if1 .left) ∙ c .before .before .before .before .before .number-errno .ensures os _ (known-at os _ _ _ eo (c .before .before .before .before .before .before .is-space .ensures))) (c .before .before .before .area-list .ensures) (c .before .before .list-errno .ensures os g)) (c .before .if2 .taken) (c .refusal2 .ensures)
 
 place-of-requires : tie.Need-place-of-requires
 place-of-requires c κs = search needs
@@ -44,12 +45,13 @@ acceptance-requires c κs = search needs
 
 returns-3 : tie.Need-returns-3
 unfolding allowEdit
-returns-3 c = settle-taken _ _ _ _ (by-list _ _ _ _ _ _ _ (sym (c .before .before .before .before .before .before .before .if1 .left) ∙ c .before .before .before .before .before .before .before .before .number-errno .ensures) (c .before .before .before .before .before .before .area-list .ensures) (c .before .before .before .before .before .list-errno .ensures)) (c .before .before .before .before .if2 .left) (allow-edit _ _ _ _ _ _ _ _ _ (c .before .before .before .object-at .ensures) (c .before .before .place-of .ensures) (c .before .before .before .before .before .before .area-list .ensures) (c .before .with-allow .ensures) (c .acceptance .ensures))
+returns-3 c = λ os eo g. settle-taken _ _ _ _ (by-list os _ _ _ _ _ _ (sym (c .before .before .before .before .before .before .if1 .left) ∙ c .before .before .before .before .before .before .before .number-errno .ensures os _ (known-at os _ _ _ eo (c .before .before .before .before .before .before .before .before .is-space .ensures))) (c .before .before .before .before .before .area-list .ensures) (c .before .before .before .before .list-errno .ensures os g)) (c .before .before .before .if2 .left) (allow-edit os _ _ _ _ _ _ _ _ eo (c .before .before .place-of .ensures) (c .before .before .before .before .before .area-list .ensures) (c .before .with-allow .ensures) (c .acceptance .ensures))
 
 pub decide-allow-spec : {M : Type 1} → statement M
 decide-allow-spec =
     tie.close
     (tie.spec
+    is-space-requires
     number-errno-requires
     refusal-requires
     returns
@@ -57,7 +59,6 @@ decide-allow-spec =
     list-errno-requires
     refusal-requires-2
     returns-2
-    object-at-requires
     place-of-requires
     with-allow-requires
     acceptance-requires

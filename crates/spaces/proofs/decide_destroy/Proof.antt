@@ -7,14 +7,8 @@ use borrow.Author.Needs.{needs}
 use Rattle.spaces.proofs.decide_destroy.Statement.{statement}
 use Rattle.spaces.proofs.decide_destroy.Tie as tie
 
-object-at-requires : tie.Need-object-at-requires
-object-at-requires c κs = search needs
-
 is-attached-requires : tie.Need-is-attached-requires
 is-attached-requires c κs = search needs
-
-has-device-requires : tie.Need-has-device-requires
-has-device-requires c κs = search needs
 
 either-requires : tie.Need-either-requires
 either-requires c κs = search needs
@@ -33,7 +27,7 @@ refusal-requires c κs = search needs
 
 returns : tie.Need-returns
 unfolding destroyEdit
-returns c = settle-refused _ _ _ _ (destroy-errno _ _ _ (c .before .before .before .before .before .before .before .before .object-at .ensures) _ _ _ _ _ _ (c .before .before .before .before .before .before .before .is-attached .ensures) (c .before .before .before .before .before .before .has-device .ensures) (c .before .before .before .before .before .either .ensures) (c .before .before .before .before .is-free .ensures) (c .before .before .before .refuse-if .ensures) (c .before .before .refuse-if2 .ensures)) (c .before .if1 .taken) (c .refusal .ensures)
+returns c = λ os eo eh. settle-refused _ _ _ _ (destroy-errno os _ _ eo _ _ _ _ _ _ (c .before .before .before .before .before .before .is-attached .ensures) eh (c .before .before .before .before .before .either .ensures) (c .before .before .before .before .is-free .ensures) (c .before .before .before .refuse-if .ensures) (c .before .before .refuse-if2 .ensures)) (c .before .if1 .taken) (c .refusal .ensures)
 
 place-of-requires : tie.Need-place-of-requires
 place-of-requires c κs = search needs
@@ -49,15 +43,13 @@ acceptance-requires c κs = search needs
 
 returns-2 : tie.Need-returns-2
 unfolding destroyEdit
-returns-2 c = settle-taken _ _ _ _ (destroy-errno _ _ _ (c .before .before .before .before .before .before .before .before .before .before .before .object-at .ensures) _ _ _ _ _ _ (c .before .before .before .before .before .before .before .before .before .before .is-attached .ensures) (c .before .before .before .before .before .before .before .before .before .has-device .ensures) (c .before .before .before .before .before .before .before .before .either .ensures) (c .before .before .before .before .before .before .before .is-free .ensures) (c .before .before .before .before .before .before .refuse-if .ensures) (c .before .before .before .before .before .refuse-if2 .ensures)) (omega arith) (destroy-edit _ _ _ (c .before .before .before .before .before .before .before .before .before .before .before .object-at .ensures) _ _ _ _ (c .before .before .before .place-of .ensures) (c .before .before .removal-of .ensures) (c .before .free-object .ensures) (c .acceptance .ensures))
+returns-2 c = λ os eo eh. settle-taken _ _ _ _ (destroy-errno os _ _ eo _ _ _ _ _ _ (c .before .before .before .before .before .before .before .before .before .is-attached .ensures) eh (c .before .before .before .before .before .before .before .before .either .ensures) (c .before .before .before .before .before .before .before .is-free .ensures) (c .before .before .before .before .before .before .refuse-if .ensures) (c .before .before .before .before .before .refuse-if2 .ensures)) (omega arith) (destroy-edit os _ _ eo _ _ _ _ (c .before .before .before .place-of .ensures) (c .before .before .removal-of .ensures) (c .before .free-object .ensures) (c .acceptance .ensures))
 
 pub decide-destroy-spec : {M : Type 1} → statement M
 decide-destroy-spec =
     tie.close
     (tie.spec
-    object-at-requires
     is-attached-requires
-    has-device-requires
     either-requires
     is-free-requires
     refuse-if-requires

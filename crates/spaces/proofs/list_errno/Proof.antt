@@ -1,6 +1,10 @@
 -- The checks in order.
-use mathlib.Core.Path.{ap}
+use mathlib.Core.Path.{ap, _∙_}
 use mathlib.Core.Bool.{Bool, not}
+use mathlib.Core.List.{List}
+use Rattle.ranges.specs.declared.Range.{Range}
+use Rattle.rangelists.specs.Listed.{allowed}
+use Rattle.table.specs.Good.{listsTouch}
 use Rattle.lookups.specs.Settled.{checked, checked-last}
 use Rattle.spaces.specs.Allow.{listChecks}
 use Rattle.spaces.proofs.Listing.{or-is}
@@ -28,7 +32,10 @@ refuse-if-requires-2 c κs = search needs
 
 returns : tie.Need-returns
 unfolding listChecks
-returns c = checked _ _ _ _ _ _ _ (c .refuse-if2 .ensures) (or-is _ _ _ _ _ (c .before .before .before .either .ensures) (ap (λ (b : Bool). not b) (c .before .before .before .before .before .allowed-valid .ensures)) (c .before .before .before .before .allowed-overlap .ensures)) (checked-last _ _ _ _ _ (c .before .refuse-if .ensures) (c .before .before .reserved-touches .ensures))
+returns c = λ os g.
+    let a = c .before .before .before .before .before .before .args in
+    checked _ _ _ _ _ _ _ (c .refuse-if2 .ensures) (or-is _ _ _ _ _ (c .before .before .before .either .ensures) (ap (λ (b : Bool). not b) (c .before .before .before .before .before .allowed-valid .ensures)) (c .before .before .before .before .allowed-overlap .ensures))
+    (checked-last _ _ _ _ _ (c .before .refuse-if .ensures) (c .before .before .reserved-touches .ensures ∙ ap (λ (rs : List Range). listsTouch rs (allowed (a .l))) (g .same (a .space))))
 
 pub list-errno-spec : {M : Type 1} → statement M
 list-errno-spec =

@@ -7,9 +7,6 @@ use borrow.Author.Needs.{needs}
 use Rattle.spaces.proofs.number_errno.Statement.{statement}
 use Rattle.spaces.proofs.number_errno.Tie as tie
 
-space-at-requires : tie.Need-space-at-requires
-space-at-requires c κs = search needs
-
 mul-refuse-if : tie.Need-mul-refuse-if
 mul-refuse-if c = search needs
 
@@ -27,13 +24,12 @@ refuse-if-requires-4 c κs = search needs
 
 returns : tie.Need-returns
 unfolding numberChecks
-returns c = checked _ _ _ _ _ _ _ (c .refuse-if4 .ensures) refl (checked _ _ _ _ _ _ _ (c .before .refuse-if3 .ensures) (ap (λ (b : Bool). not b) (c .before .before .before .before .space-at .ensures)) (checked _ _ _ _ _ _ _ (c .before .before .refuse-if2 .ensures) refl (checked-last _ _ _ _ _ (c .before .before .before .refuse-if .ensures) refl)))
+returns c = λ os s e. checked _ _ _ _ _ _ _ (c .refuse-if4 .ensures) refl (checked _ _ _ _ _ _ _ (c .before .refuse-if3 .ensures) (ap (λ (b : Bool). not b) e) (checked _ _ _ _ _ _ _ (c .before .before .refuse-if2 .ensures) refl (checked-last _ _ _ _ _ (c .before .before .before .refuse-if .ensures) refl)))
 
 pub number-errno-spec : {M : Type 1} → statement M
 number-errno-spec =
     tie.close
     (tie.spec
-    space-at-requires
     mul-refuse-if
     refuse-if-requires
     refuse-if-requires-2

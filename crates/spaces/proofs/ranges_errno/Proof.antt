@@ -7,9 +7,6 @@ use borrow.Author.Needs.{needs}
 use Rattle.spaces.proofs.ranges_errno.Statement.{statement}
 use Rattle.spaces.proofs.ranges_errno.Tie as tie
 
-space-at-requires : tie.Need-space-at-requires
-space-at-requires c κs = search needs
-
 mul-refuse-if : tie.Need-mul-refuse-if
 mul-refuse-if c = search needs
 
@@ -24,15 +21,9 @@ refuse-if-requires-3 c κs = search needs
 
 returns : tie.Need-returns
 unfolding rangesChecks
-returns c = checked _ _ _ _ _ _ _ (c .refuse-if3 .ensures) refl (checked _ _ _ _ _ _ _ (c .before .refuse-if2 .ensures) (ap (λ (b : Bool). not b) (c .before .before .before .space-at .ensures)) (checked-last _ _ _ _ _ (c .before .before .refuse-if .ensures) refl))
+returns c = λ os s e. checked _ _ _ _ _ _ _ (c .refuse-if3 .ensures) refl (checked _ _ _ _ _ _ _ (c .before .refuse-if2 .ensures) (ap (λ (b : Bool). not b) e) (checked-last _ _ _ _ _ (c .before .before .refuse-if .ensures) refl))
 
 pub ranges-errno-spec : {M : Type 1} → statement M
 ranges-errno-spec =
     tie.close
-    (tie.spec
-    space-at-requires
-    mul-refuse-if
-    refuse-if-requires
-    refuse-if-requires-2
-    refuse-if-requires-3
-    returns)
+    (tie.spec mul-refuse-if refuse-if-requires refuse-if-requires-2 refuse-if-requires-3 returns)

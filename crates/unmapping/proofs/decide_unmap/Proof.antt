@@ -12,13 +12,13 @@ refusal-requires : tie.Need-refusal-requires
 refusal-requires c κs = search needs
 
 returns : tie.Need-returns
-returns c = by-numbers _ _ _ _ _ _ _ (c .before .before .unmap-number-errno .ensures) (c .before .if1 .taken) (c .refusal .ensures)
+returns c = λ os k. by-numbers os _ _ _ _ _ _ (c .before .before .unmap-number-errno .ensures os _ k) (c .before .if1 .taken) (c .refusal .ensures)
 
 range-asked-requires : tie.Need-range-asked-requires
 range-asked-requires c κs = search needs
 
 removal-of-requires : tie.Need-removal-of-requires
-removal-of-requires c κs = records-short _ _ (c .before .before .before .pre)
+removal-of-requires c κs = records-short (c .before .before .before .pre .0) _ (c .before .before .before .pre .1)
 
 asks-all-requires : tie.Need-asks-all-requires
 asks-all-requires c κs = search needs
@@ -30,7 +30,7 @@ refusal-requires-2 : tie.Need-refusal-requires-2
 refusal-requires-2 c κs = search needs
 
 returns-2 : tie.Need-returns-2
-returns-2 c = by-removal _ _ _ _ _ _ (c .before .before .before .before .before .before .before .unmap-number-errno .ensures) (c .before .before .before .before .before .before .if1 .left) _ (c .before .before .before .before .before .range-asked .ensures) _ (c .before .before .before .before .removal-of .ensures) _ (c .before .before .before .asks-all .ensures) _ (c .before .before .removal-errno .ensures) _ (c .before .if2 .taken) (c .refusal2 .ensures)
+returns-2 c = λ os k. by-removal os _ _ _ _ _ (c .before .before .before .before .before .before .before .unmap-number-errno .ensures os _ k) (c .before .before .before .before .before .before .if1 .left) _ (c .before .before .before .before .before .range-asked .ensures) _ (c .before .before .before .before .removal-of .ensures) _ (c .before .before .before .asks-all .ensures) _ (c .before .before .removal-errno .ensures) _ (c .before .if2 .taken) (c .refusal2 .ensures)
 
 free-object-requires : tie.Need-free-object-requires
 free-object-requires c κs = search needs
@@ -39,7 +39,7 @@ acceptance-requires : tie.Need-acceptance-requires
 acceptance-requires c κs = search needs
 
 returns-3 : tie.Need-returns-3
-returns-3 c = by-clearing _ _ _ _ _ _ (c .before .before .before .before .before .before .before .before .unmap-number-errno .ensures) (c .before .before .before .before .before .before .before .if1 .left) _ (c .before .before .before .before .before .before .range-asked .ensures) _ (c .before .before .before .before .before .removal-of .ensures) _ (c .before .before .before .before .asks-all .ensures) _ (c .before .before .before .removal-errno .ensures) _ _ (c .before .before .if2 .left) (c .before .free-object .ensures) (c .acceptance .ensures)
+returns-3 c = λ os k. by-clearing os _ _ _ _ _ (c .before .before .before .before .before .before .before .before .unmap-number-errno .ensures os _ k) (c .before .before .before .before .before .before .before .if1 .left) _ (c .before .before .before .before .before .before .range-asked .ensures) _ (c .before .before .before .before .before .removal-of .ensures) _ (c .before .before .before .before .asks-all .ensures) _ (c .before .before .before .removal-errno .ensures) _ _ (c .before .before .if2 .left) (c .before .free-object .ensures) (c .acceptance .ensures)
 
 pub decide-unmap-spec : {M : Type 1} → statement M
 decide-unmap-spec =

@@ -1,0 +1,1 @@
+-- The entries of the archive: what they promise stands in the definitions of lentcalls.

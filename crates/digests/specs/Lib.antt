@@ -1,0 +1,2 @@
+-- What the calls need to know of the objects.
+pub mod Digest

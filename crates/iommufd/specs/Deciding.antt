@@ -1,0 +1,77 @@
+-- What a command decides on any table, as an edit: document 01's rules up to the point where the table changes.
+use Prim.Native.Nat.{ℕ}
+use mathlib.Core.Path.{_≡_, refl}
+use mathlib.Core.Bool.{cond, _||_}
+use mathlib.Core.List.{List}
+use lib.Dec.{eqb, ltb}
+use lib.ListN.{length}
+use Rattle.wire.specs.Fields.{field}
+use Rattle.command.specs.declared.Command.{Command}
+use Rattle.command.specs.declared.Command.the-variants.{Destroy, IoasAlloc, AllowIovas, Copy, IovaRanges, Map, Unmap}
+use Rattle.command.specs.declared.Row.{Row}
+use Rattle.command.specs.declared.Row.the-variants.{Unlisted, Listed}
+use Rattle.command.specs.declared.Opening.{Opening}
+use Rattle.command.specs.declared.Opening.the-variants.{UnknownRequest, NoSizeField, SizeTooSmall, SizePastBytes, TailNotZero, Open}
+use Rattle.command.specs.Requests.{lookup}
+use Rattle.table.specs.declared.Table.{Table}
+use Rattle.edits.specs.declared.Edit.{Edit}
+use Rattle.edits.specs.Edits.{refuse, applied}
+use Rattle.edits.specs.Answers.{refusedBy, outcome}
+use Rattle.tablecheck.specs.Gate.{gateErrno}
+use Rattle.spacecalls.specs.Calls.{allocCall, allocAnswer, destroyCall, destroyAnswer, allowCall, allowAnswer, rangesCall, rangesResult}
+use Rattle.mappingcalls.specs.Calls.{mapCall, mapAnswer, copyCall, copyAnswer, unmapCall, unmapAnswer}
+use Rattle.iommufd.specs.Door.{rowDone, callDone}
+
+-- the ids that a command names, as far as its bytes are lent: MAP and COPY have the space at offset 8, the others an id at 4; COPY has its source at 12
+abbrev pub firstId : ℕ → List ℕ → ℕ
+firstId request bytes = cond (ltb (length bytes) 8) 0 (cond (ltb (length bytes) 12) (field 4 bytes 4) (cond (eqb request 0x3B83 || eqb request 0x3B85) (field 4 bytes 8) (field 4 bytes 4)))
+
+abbrev pub secondId : List ℕ → ℕ
+secondId bytes = cond (ltb (length bytes) 16) 0 (field 4 bytes 12)
+
+-- the command of an opening, and any where none is open
+abbrev pub commandIn : Opening → Command
+commandIn UnknownRequest = Destroy
+commandIn NoSizeField = Destroy
+commandIn SizeTooSmall = Destroy
+commandIn SizePastBytes = Destroy
+commandIn TailNotZero = Destroy
+commandIn (Open c) = c
+
+-- IOVA_RANGES changes nothing: its edit carries the errno alone
+abbrev pub commandEdit : Command → Table → List ℕ → List ℕ → Edit
+commandEdit Destroy t bytes area = destroyCall t bytes
+commandEdit IoasAlloc t bytes area = allocCall t bytes
+commandEdit AllowIovas t bytes area = allowCall t bytes area
+commandEdit Copy t bytes area = copyCall t bytes
+commandEdit IovaRanges t bytes area = refuse (rangesCall t bytes area)
+commandEdit Map t bytes area = mapCall t bytes
+commandEdit Unmap t bytes area = unmapCall t bytes
+
+abbrev pub rowEdit : Row → Table → ℕ → List ℕ → List ℕ → Edit
+rowEdit Unlisted t request bytes area = refuse (gateErrno t request bytes)
+rowEdit (Listed c size) t request bytes area = commandEdit c t bytes area
+
+unfoldable pub callEdit : Table → ℕ → List ℕ → List ℕ → Edit
+callEdit t request bytes area = rowEdit (lookup request) t request bytes area
+
+-- what deciding leaves: the edit, the command bytes, the range area
+pub record Decided (t : Table) (request : ℕ) (bytes area : List ℕ) (e : Edit) (bytes′ area′ : List ℕ) : Type 0 where
+  pub edit : e ≡ callEdit t request bytes area
+  pub reply : bytes′ ≡ callDone t request bytes area .bytes
+  pub ranges : area′ ≡ callDone t request bytes area .area
+
+-- THE LAW: the answer of a command is its edit, applied
+pub call-edit : (t : Table) (request : ℕ) (bytes area : List ℕ) → callDone t request bytes area .answer ≡ outcome t (callEdit t request bytes area)
+unfolding callDone callEdit refusedBy outcome applied allocAnswer destroyAnswer allowAnswer rangesResult mapAnswer copyAnswer unmapAnswer
+call-edit t request bytes area = go (lookup request)
+  where
+    go : (r : Row) → rowDone r t request bytes area .answer ≡ outcome t (rowEdit r t request bytes area)
+    go Unlisted = refl
+    go (Listed Destroy size) = refl
+    go (Listed IoasAlloc size) = refl
+    go (Listed AllowIovas size) = refl
+    go (Listed Copy size) = refl
+    go (Listed IovaRanges size) = refl
+    go (Listed Map size) = refl
+    go (Listed Unmap size) = refl

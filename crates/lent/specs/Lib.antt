@@ -1,0 +1,3 @@
+-- The records of a table in the caller's memory.
+pub mod Lent
+pub mod Stored

@@ -1,0 +1,5 @@
+-- Calls on a lent table.
+pub mod Lent
+pub mod Applied
+pub mod Entries
+pub mod Endings

@@ -1,0 +1,1 @@
+// The sequence of calls on a lent table. No code: see specs/.

@@ -1,0 +1,1 @@
+// What the walks of other crates share. No code: see specs/.

@@ -1,0 +1,160 @@
+/* A small kernel shell: two cameras, two spaces, a private and a shared buffer, and what each camera reaches. */
+#include "iommufd.h"
+
+#include <stdio.h>
+#include <stdlib.h>
+#include <string.h>
+
+static struct iommufd_head head;
+static struct iommufd_mapping mappings[IOMMUFD_MAPPINGS];
+static uint8_t no_area[1];
+
+/* Prints a step with its result, and stops where it is not the one expected. */
+static void step(const char *what, int32_t result, int32_t expected)
+{
+	printf("%-44s %d\n", what, (int)result);
+	if (result != expected) {
+		printf("expected %d\n", (int)expected);
+		exit(1);
+	}
+}
+
+static int32_t call(uint32_t request, void *command, size_t size)
+{
+	uint8_t bytes[64];
+	int32_t result;
+
+	memcpy(bytes, command, size);
+	result = iommufd_call(&head, mappings, IOMMUFD_MAPPINGS, request, bytes, size, no_area, 0);
+	memcpy(command, bytes, size);
+	return result;
+}
+
+static uint32_t new_space(const char *what)
+{
+	struct iommufd_ioas_alloc_cmd alloc = { .size = sizeof alloc };
+
+	step(what, call(IOMMUFD_IOAS_ALLOC, &alloc, sizeof alloc), 0);
+	return alloc.out_id;
+}
+
+static uint32_t new_camera(const char *what, int32_t id)
+{
+	struct iommufd_reserved reserved = { .count = 1, .starts = { 0xFEE00000 }, .lasts = { 0xFEEFFFFF } };
+
+	step(what, iommufd_bind(&head, mappings, IOMMUFD_MAPPINGS, 4096, reserved), id);
+	return (uint32_t)id;
+}
+
+static uint64_t map(const char *what, uint32_t space, uint32_t flags, uint64_t memory, uint64_t length, uint64_t address, int32_t expected)
+{
+	struct iommufd_map_cmd map = {
+		.size = sizeof map, .flags = flags, .space = space, .memory = memory, .length = length, .address = address,
+	};
+
+	step(what, call(IOMMUFD_MAP, &map, sizeof map), expected);
+	return map.address;
+}
+
+static void reach(const char *what, uint32_t camera, uint64_t address, uint64_t length, uint32_t write)
+{
+	struct iommufd_number n = iommufd_reach(&head, mappings, IOMMUFD_MAPPINGS, camera, address, length, write);
+
+	if (n.result == 0)
+		printf("%-44s memory 0x%llx\n", what, (unsigned long long)n.value);
+	else
+		printf("%-44s %d\n", what, (int)n.result);
+}
+
+static void charge(void)
+{
+	struct iommufd_number n = iommufd_charge(&head, mappings, IOMMUFD_MAPPINGS);
+
+	printf("%-44s %llu pages\n", "charge", (unsigned long long)n.value);
+}
+
+/* The mappings of a space by their addresses. */
+static void print_space(uint32_t space)
+{
+	uint64_t from = 0;
+	int some = 0;
+
+	printf("space %u\n", (unsigned)space);
+	for (;;) {
+		const struct iommufd_mapping *next = NULL;
+
+		for (size_t i = 0; i < IOMMUFD_MAPPINGS; i++) {
+			const struct iommufd_mapping *m = &mappings[i];
+
+			if (m->space == space && m->address >= from && (next == NULL || m->address < next->address))
+				next = m;
+		}
+		if (next == NULL)
+			break;
+		printf("  0x%08llx to 0x%08llx -> memory 0x%08llx  %c%c  backing %u\n", (unsigned long long)next->address,
+		       (unsigned long long)(next->address + next->length - 1), (unsigned long long)next->memory,
+		       next->rights & IOMMUFD_RIGHT_READ ? 'r' : '-', next->rights & IOMMUFD_RIGHT_WRITE ? 'w' : '-',
+		       (unsigned)next->backing);
+		some = 1;
+		from = next->address + 1;
+	}
+	if (!some)
+		printf("  nothing mapped\n");
+}
+
+int main(void)
+{
+	const uint32_t rw = IOMMUFD_READABLE | IOMMUFD_WRITEABLE;
+	uint32_t left, right, left_camera, right_camera;
+	uint64_t private_at, shared_at;
+
+	step("a table of at most 64 pages", iommufd_fresh(&head, mappings, IOMMUFD_MAPPINGS, 64), 0);
+	left = new_space("the left camera's space");
+	right = new_space("the right camera's space");
+	left_camera = new_camera("the left camera", 3);
+	right_camera = new_camera("the right camera", 4);
+	step("left camera to its space", iommufd_attach(&head, mappings, IOMMUFD_MAPPINGS, left_camera, left), 0);
+	step("right camera to its space", iommufd_attach(&head, mappings, IOMMUFD_MAPPINGS, right_camera, right), 0);
+
+	private_at = map("a private buffer, writeable", left, rw, 0x100000, 0x4000, 0, 0);
+	shared_at = map("a shared buffer, writeable", left, rw, 0x200000, 0x2000, 0, 0);
+	map("a second buffer on the private one", left, rw | IOMMUFD_FIXED, 0x300000, 0x1000, private_at, -IOMMUFD_EEXIST);
+	{
+		struct iommufd_copy_cmd copy = {
+			.size = sizeof copy, .flags = IOMMUFD_READABLE, .target = right, .source = left, .length = 0x2000, .source_address = shared_at,
+		};
+
+		step("the shared buffer, copied for reading", call(IOMMUFD_COPY, &copy, sizeof copy), 0);
+	}
+	charge();
+	print_space(left);
+	print_space(right);
+
+	reach("left camera writes its private buffer", left_camera, private_at + 0x1000, 0x1000, 1);
+	reach("left camera writes the shared buffer", left_camera, shared_at, 0x2000, 1);
+	reach("right camera reads the shared buffer", right_camera, 0, 0x2000, 0);
+	reach("right camera writes the shared buffer", right_camera, 0, 0x2000, 1);
+	reach("right camera reads past its buffer", right_camera, 0x1000, 0x2000, 0);
+
+	{
+		struct iommufd_unmap_cmd unmap = { .size = sizeof unmap, .space = left, .address = private_at, .length = 0x4000 };
+
+		step("the private buffer goes", call(IOMMUFD_UNMAP, &unmap, sizeof unmap), 0);
+		printf("%-44s 0x%llx\n", "bytes removed", (unsigned long long)unmap.length);
+	}
+	charge();
+	print_space(left);
+	print_space(right);
+	reach("left camera writes where the buffer was", left_camera, private_at, 1, 1);
+
+	head.objects[5].kind = 7;
+	step("a kind that is none", call(IOMMUFD_DESTROY, &(struct iommufd_destroy_cmd){ .size = 8, .id = left }, 8), -IOMMUFD_EUCLEAN);
+	head.objects[5].kind = IOMMUFD_FREE;
+	step("127 records lent", iommufd_detach(&head, mappings, IOMMUFD_MAPPINGS - 1, left_camera), -IOMMUFD_EUCLEAN);
+	step("left camera detached", iommufd_detach(&head, mappings, IOMMUFD_MAPPINGS, left_camera), 0);
+	step("its space destroyed", call(IOMMUFD_DESTROY, &(struct iommufd_destroy_cmd){ .size = 8, .id = left }, 8), 0);
+	charge();
+	print_space(left);
+	print_space(right);
+	return 0;
+}
