@@ -194,32 +194,42 @@ IOMMUFD_SIZE(struct iommufd_range, 16);
 #define IOMMUFD_EADDRINUSE 98 /* reserved against mapped or allowed */
 #define IOMMUFD_EUCLEAN 117   /* bad table */
 
-/* ---- the entries. `count` is the number of mapping records that are lent. */
+/*
+ * ---- the entries. `count` is the number of mapping records that are lent; for each of them the caller owes what stands at the top of this file, IOMMUFD_STACK included.
+ */
 
-/* Writes an empty table with a charge limit in pages. -22 above 2^36, and then nothing is written. */
+/* Writes an empty table with a charge limit in pages, over whatever the memory held: 0. -22 for a limit above 2^36, and then nothing is written. */
 int32_t iommufd_fresh(struct iommufd_head *head, struct iommufd_mapping *mappings, size_t count, uint64_t limit);
 
-/* A driver's command. A reply writes its output fields and no other byte; of the table only the records that change are written. */
+/*
+ * A driver's command: 0, or the negative errno of the first check that fails, in the documented order. An accepted command writes its output fields and no other byte of the
+ * command, and of the table only the records that change. An automatic address is the lowest that is permitted.
+ */
 int32_t iommufd_call(struct iommufd_head *head, struct iommufd_mapping *mappings, size_t count, uint32_t request, uint8_t *command,
                      size_t command_size, uint8_t *area, size_t area_size);
 
-/* What the same command would answer now, its reply included; the table is only read. */
+/* What iommufd_call would answer now, with the same bytes written into the command and the range area; the table is only read. */
 int32_t iommufd_preview(const struct iommufd_head *head, const struct iommufd_mapping *mappings, size_t count, uint32_t request,
                         uint8_t *command, size_t command_size, uint8_t *area, size_t area_size);
 
-/* A new device, attached to nothing. The result is its id, from 1 to 32. */
+/* A new device with its page sizes and reserved ranges, attached to nothing, in the lowest free object record. The result is its id, from 1 to 32, or a negative errno. */
 int32_t iommufd_bind(struct iommufd_head *head, struct iommufd_mapping *mappings, size_t count, uint64_t bitmap,
                      struct iommufd_reserved reserved);
 
+/* A device to a space: 0, or a refusal where a mapping or the allow list of the space stands against the device's page size or reserved ranges. */
 int32_t iommufd_attach(struct iommufd_head *head, struct iommufd_mapping *mappings, size_t count, uint32_t device, uint32_t space);
 
+/* A device from its space: 0, or a refusal where it is attached to none. Mappings stay. */
 int32_t iommufd_detach(struct iommufd_head *head, struct iommufd_mapping *mappings, size_t count, uint32_t device);
 
-/* The memory that a device gets to with `length` bytes at an address: for reading where `write` is 0, else for writing. The table is only read. */
+/*
+ * The memory that a device gets to with `length` bytes at an address: for reading where `write` is 0, else for writing. The value is a memory address exactly where the bytes
+ * lie wholly inside one mapping of the device's space that has the right. The table is only read.
+ */
 struct iommufd_number iommufd_reach(const struct iommufd_head *head, const struct iommufd_mapping *mappings, size_t count, uint32_t device,
                                     uint64_t address, uint64_t length, uint32_t write);
 
-/* The pages of all backings, each counted once. The table is only read. */
+/* The pages of all backings, each counted once; it never passes the limit. The table is only read. */
 struct iommufd_number iommufd_charge(const struct iommufd_head *head, const struct iommufd_mapping *mappings, size_t count);
 
 #ifdef __cplusplus

@@ -1,0 +1,1 @@
+-- A lent table for callers that hold it by value.
