@@ -10,6 +10,10 @@ use lib.Pow.{pow-lt}
 use Rattle.alignment.specs.Multiples.{multiple, fits, fits-length}
 use Rattle.alignment.specs.Pages.{smallestPage, trailing-lt}
 
+pub of-page : (a x : ℕ) → a ≡ 4096 → eqb (x % 4096) 0 ≡ multiple a x
+unfolding multiple
+of-page a x e = rw e
+
 pub of-zero : (a x : ℕ) → a ≡ 0 → eqb x 0 ≡ multiple a x
 unfolding multiple
 of-zero a x z = rw z (ap (λ (r : ℕ). eqb r 0) (sym (mod-zero x)))

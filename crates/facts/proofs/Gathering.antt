@@ -1,12 +1,12 @@
 -- The two loops that gather: objects before place i are done, and of the object at i the first j ranges.
 use Prim.Native.Nat.{ℕ, _+_, _*_, _≤_, _<_, min}
-use mathlib.Core.Path.{_≡_, refl, sym, ap, _∙_}
+use mathlib.Core.Path.{_≡_, refl, sym, ap, subst, _∙_}
 use mathlib.Core.Bool.{true, false, cond}
-use mathlib.Core.List.{List, [], _∷_, _++_, append-assoc, append-nil}
+use mathlib.Core.List.{List, [], _∷_, _++_, map, append-assoc, append-nil}
 use native.Mathlib.Numerals.{add-one}
 use native.Mathlib.Omega.{arith}
 use lib.Dec.{eqb}
-use lib.ListN.{length, getD, set, take, replicate, length-set, length-take}
+use lib.ListN.{length, getD, set, take, replicate, length-set, length-take, length-map}
 use lib.Seq.{take-suc, take-all, take-nil}
 use Rattle.lists.specs.Tests.{by-test}
 use Rattle.ranges.specs.declared.Range.{Range}
@@ -20,6 +20,9 @@ use Rattle.table.specs.declared.Kind.the-variants.{Free, Space, Device}
 use Rattle.table.specs.declared.Object.{Object}
 use Rattle.table.specs.Records.{zeroObject, isAttached, homeOf, attachedTo}
 use Rattle.table.specs.Spaces.{reservedFor, reservedOf}
+use Rattle.raw.specs.declared.RawObject.{RawObject}
+use Rattle.raw.specs.Raw.{zeroRaw, decoded}
+use Rattle.raw.specs.Laws.{decoded-at}
 use Rattle.facts.specs.Gathered.{Gathered, placesFor, reservedOf-next}
 
 -- a count by the kind
@@ -90,7 +93,7 @@ next-by l j s (Device (Attached a)) p q h =
 
 module _ (os : List Object) (i j n : ℕ) (ks ss ls : List ℕ) (g : Gathering os i j n ks ss ls) (h : i < 32) where
   -- the range at j is written at n
-  pub gathering-on : (key : ℕ) → placesAt os i ≤ length (getD os i zeroObject .reserved .starts)
+  gathering-on : (key : ℕ) → placesAt os i ≤ length (getD os i zeroObject .reserved .starts)
       → placesAt os i ≤ length (getD os i zeroObject .reserved .lasts) → j < placesAt os i → j < 4 → key ≡ homeOf (getD os i zeroObject .kind)
       → Gathering os i (j + 1) (n + 1) (set ks n key) (set ss n (startAt os i j)) (set ls n (lastAt os i j))
   unfolding reservedFor
@@ -111,7 +114,7 @@ module _ (os : List Object) (i j n : ℕ) (ks ss ls : List ℕ) (g : Gathering o
   }
 
   -- the object at i has no more
-  pub gathering-next : placesAt os i ≤ j → j ≤ 4 → Gathering os (i + 1) 0 n ks ss ls
+  gathering-next : placesAt os i ≤ j → j ≤ 4 → Gathering os (i + 1) 0 n ks ss ls
   gathering-next f w = record {
     upto = omega arith;
     room = omega (arith, g .room);
@@ -126,12 +129,30 @@ module _ (os : List Object) (i j n : ℕ) (ks ss ls : List ℕ) (g : Gathering o
         ∙ sym (append-nil (reservedOf (take (i + 1) os) s));
   }
 
-pub gathering-start : (os : List Object) → length os ≡ 32 → Gathering os 0 0 0 (replicate 128 0) (replicate 128 0) (replicate 128 0)
+-- the same by the object that a loop has decoded
+module _ (rs : List RawObject) (i j n : ℕ) (ks ss ls : List ℕ) (g : Gathering (map decoded rs) i j n ks ss ls) (h : i < 32) (o : Object) (e : o ≡ decoded (getD rs i zeroRaw)) where
+  same-object : getD (map decoded rs) i zeroObject ≡ o
+  same-object = decoded-at rs i ∙ sym e
+
+  pub gathered-on : (key : ℕ) → placesFor (o .kind) (o .reserved .count) ≤ length (o .reserved .starts) → placesFor (o .kind) (o .reserved .count) ≤ length (o .reserved .lasts)
+      → j < placesFor (o .kind) (o .reserved .count) → j < 4 → key ≡ homeOf (o .kind)
+      → Gathering (map decoded rs) i (j + 1) (n + 1) (set ks n key) (set ss n (getD (o .reserved .starts) j 0)) (set ls n (getD (o .reserved .lasts) j 0))
+  gathered-on =
+      subst
+      (λ (x : Object). (key : ℕ) → placesFor (x .kind) (x .reserved .count) ≤ length (x .reserved .starts) → placesFor (x .kind) (x .reserved .count) ≤ length (x .reserved .lasts)
+      → j < placesFor (x .kind) (x .reserved .count) → j < 4 → key ≡ homeOf (x .kind)
+      → Gathering (map decoded rs) i (j + 1) (n + 1) (set ks n key) (set ss n (getD (x .reserved .starts) j 0)) (set ls n (getD (x .reserved .lasts) j 0)))
+      same-object (gathering-on (map decoded rs) i j n ks ss ls g h)
+
+  pub gathered-next : placesFor (o .kind) (o .reserved .count) ≤ j → j ≤ 4 → Gathering (map decoded rs) (i + 1) 0 n ks ss ls
+  gathered-next = subst (λ (x : Object). placesFor (x .kind) (x .reserved .count) ≤ j → j ≤ 4 → Gathering (map decoded rs) (i + 1) 0 n ks ss ls) same-object (gathering-next (map decoded rs) i j n ks ss ls g h)
+
+pub gathering-start : (rs : List RawObject) → length rs ≡ 32 → Gathering (map decoded rs) 0 0 0 (replicate 128 0) (replicate 128 0) (replicate 128 0)
 unfolding blockedFor rangesFor reservedOf
-gathering-start os h = record {
+gathering-start rs h = record {
   upto = omega arith;
   room = omega arith;
-  objects = h;
+  objects = length-map rs decoded ∙ h;
   keys = refl;
   starts = refl;
   lasts = refl;

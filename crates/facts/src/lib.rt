@@ -1,19 +1,21 @@
 // What the check of a table asks of its mappings and the devices' reserved ranges. The ranges of all attached devices are gathered once;
 // then every mapping is tested against them.
+ghost use mathlib.Core.List.{map};
 ghost use mathlib.Core.Path.{_≡_};
 ghost use Prim.Native.Nat.{_≤_};
 ghost use lib.ListN.{length};
 ghost use Rattle.lists.specs.Search.{all};
 ghost use Rattle.blocks.specs.Blocked.{blocked};
 ghost use Rattle.table.specs.Good.{whenUsed, clearOf};
+ghost use Rattle.raw.specs.Raw.{decoded};
 ghost use Rattle.facts.specs.Gathered.{Gathered, placesFor};
 ghost use Rattle.facts.specs.Clear.{strikes};
 use blocks::Blocks;
 use rangelists::Reserved;
 use ranges::Range;
+use raw::RawObject;
 use table::Kind;
 use table::Mapping;
-use table::Object;
 
 // How many ranges of an object's list are reserved somewhere: those in use where it is an attached device, else none.
 fn places(k: Kind, l: Reserved) -> usize
@@ -27,8 +29,8 @@ fn places(k: Kind, l: Reserved) -> usize
 }
 
 // The reserved ranges of all attached devices, in the order of their records.
-pub fn blocks_of(os: [Object; 32]) -> Blocks
-    ensures { λ b. ⌜ Gathered os b ⌝ }
+pub fn blocks_of(rs: [RawObject; 32]) -> Blocks
+    ensures { λ b. ⌜ Gathered (map decoded rs) b ⌝ }
 {
     let mut spaces: [u32; 128] = [0; 128];
     let mut starts: [u64; 128] = [0; 128];
@@ -36,7 +38,7 @@ pub fn blocks_of(os: [Object; 32]) -> Blocks
     let mut n: usize = 0;
     let mut i: usize = 0;
     while i < 32 {
-        let o = os[i];
+        let o = raw::decode(rs[i]);
         let k = o.kind;
         let l = o.reserved;
         let s = table::home_of(k);

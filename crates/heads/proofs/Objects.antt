@@ -42,21 +42,21 @@ abbrev pub object-vals : RawObject → List Val
 object-vals = LL.vals O.the-type O′.the-laws
 
 -- the records' machine value
-abbrev records-val : List RawObject → Val
+abbrev pub records-val : List RawObject → Val
 records-val zs = arrayVal (map (LL.tuple-val O.the-type O′.the-laws) (map (O.the-type .to) zs))
 
 -- what whoever holds a head knows of its limit, and of its records
 pub limit-fits : (h : Head) → Is T.the-row h (head-vals h) → h .limit < 2 ^ 64
 limit-fits h is = LL.owed T.the-type T′.the-laws h (head-vals h) is .0 .1
 
-records-is : (h : Head) → Is T.the-row h (head-vals h) → Is Objects (h .objects) (records-val (h .objects) ∷ [])
+pub records-is : (h : Head) → Is T.the-row h (head-vals h) → Is Objects (h .objects) (records-val (h .objects) ∷ [])
 records-is h is = unmap-is O.the-type 32 (h .objects) (records-val (h .objects) ∷ []) (LL.owed T.the-type T′.the-laws h (head-vals h) is .1 .0)
 
 pub records-length : (h : Head) → Is T.the-row h (head-vals h) → length (h .objects) ≡ 32
 records-length h is = records-is h is .1 .0 .1
 
 -- the types as the machine sees them
-abbrev records-ty : Ty
+abbrev pub records-ty : Ty
 records-ty = raw-ty (lone (Objects .mir))
 
 abbrev head-tys : Tys
@@ -74,6 +74,18 @@ module _ {M : Type 1} (𝓤 : URA M) (H : Heap 𝓤) (A : Atoms 𝓤) (q : Share
   Way = all 𝓤 back-at
 
 module _ {M : Type 1} (𝓤 : URA M) (H : Heap 𝓤) (A : Atoms 𝓤) (W : Given 𝓤 H A) (q : Share) (b o : ℕ) (h : Head) (is : Is T.the-row h (head-vals h)) where
+  -- the records' cell as one value, and back
+  pub records-out : ent 𝓤 (sem 𝓤 H A (cellAt q (T.the-row .mir) (head-vals h) b o)) (sep 𝓤 (sem 𝓤 H A (fat q records-ty b (o + 8) (records-val (h .objects)))) (Way 𝓤 H A q b o h))
+  records-out =
+      qed W (‵ (fat q head-ty b o (vstruct (vcons (vint w64 (h .limit)) (vcons (records-val (h .objects)) vnil)))) ∷ []) ∵
+      use1 W (‵ (fat q records-ty b (o + 8) (records-val (h .objects))) ⊛ raw (Way 𝓤 H A q b o h)) (W .laws .at-field q [] head-tys 1 records-ty 8 refl b o (vcons (vint w64 (h .limit)) (vcons (records-val (h .objects)) vnil))) $ done !
+
+  pub records-back : ent 𝓤 (sep 𝓤 (sem 𝓤 H A (fat q records-ty b (o + 8) (records-val (h .objects)))) (Way 𝓤 H A q b o h)) (sem 𝓤 H A (cellAt q (T.the-row .mir) (head-vals h) b o))
+  records-back =
+      qed W (‵ (fat q records-ty b (o + 8) (records-val (h .objects))) ∷ raw (Way 𝓤 H A q b o h) ∷ []) ∵
+      move ! (1 ∷ []) $ use1 W (raw (back-at 𝓤 H A q b o h (records-val (h .objects)))) (allE 𝓤 (back-at 𝓤 H A q b o h) (records-val (h .objects))) $ move ! (1 ∷ 0 ∷ []) $
+      use2 W (‵ (cellAt q (T.the-row .mir) (head-vals h) b o)) (apply∗ 𝓤 (H .at q records-ty b (o + 8) (records-val (h .objects))) (H .at q head-ty b o (vstruct (vcons (vint w64 (h .limit)) (vcons (records-val (h .objects)) vnil))))) $ done !
+
   pub objects-out : ent 𝓤 (sem 𝓤 H A (cellAt q (T.the-row .mir) (head-vals h) b o)) (sep 𝓤 (sem 𝓤 H A (row O.the-row q (h .objects) b (o + 8))) (Way 𝓤 H A q b o h))
   objects-out =
       qed W (‵ (fat q head-ty b o (vstruct (vcons (vint w64 (h .limit)) (vcons (records-val (h .objects)) vnil)))) ∷ []) ∵

@@ -1,12 +1,8 @@
-// The head of a table in the caller's memory, behind few thin functions: its objects are read one by one, and one is written in place.
+// The head of a table in the caller's memory, behind few thin functions: its records are read, and one is written in place.
 ghost use mathlib.Core.Path.{_≡_};
-ghost use mathlib.Core.List.{map};
-ghost use Prim.Native.Nat.{_<_};
-ghost use lib.ListN.{getD};
-ghost use Rattle.raw.specs.Raw.{zeroRaw, decoded, withRecord};
+ghost use Rattle.raw.specs.Raw.{withRecord};
 use raw::Head;
 use raw::RawObject;
-use table::Object;
 
 pub fn limit_of(h: &Head) -> u64
     ensures { λ n. ⌜ n ≡ now (h .entry) .limit ⌝ }
@@ -14,24 +10,10 @@ pub fn limit_of(h: &Head) -> u64
     h.limit
 }
 
-pub fn object_at(h: &Head, i: usize) -> RawObject
-    requires { ⌜ i < 32 ⌝ }
-    ensures { λ r. ⌜ r ≡ getD (now (h .entry) .objects) i zeroRaw ⌝ }
+pub fn objects_of(h: &Head) -> [RawObject; 32]
+    ensures { λ rs. ⌜ rs ≡ now (h .entry) .objects ⌝ }
 {
-    h.objects[i]
-}
-
-pub fn objects_of(h: &Head) -> [Object; 32]
-    ensures { λ os. ⌜ os ≡ map decoded (now (h .entry) .objects) ⌝ }
-{
-    let mut os = [raw::decode(object_at(h, 0)); 32];
-    let mut i: usize = 0;
-    while i < 32 {
-        let r = object_at(h, i);
-        os[i] = raw::decode(r);
-        i += 1;
-    }
-    os
+    h.objects
 }
 
 // The object record at a place; from 32 on nothing is written.

@@ -128,7 +128,7 @@ fn number_of(e: Edit) -> Number
 pub fn digest(h: &Head, a: u32, b: u32) -> Digest
     ensures { λ d. ⌜ (DigestOf (map decoded (now (h .entry) .objects)) a b d) × (length (now (h .entry) .objects) ≡ 32) ⌝ }
 {
-    digests::digest_of(heads::objects_of(h), a, b)
+    digests::digest_raw(heads::objects_of(h), a, b)
 }
 
 pub fn decide_command(

@@ -12,12 +12,12 @@ use Rattle.placement.specs.declared.Blocked.{Blocked}
 use Rattle.placement.specs.Candidates.{blockedList}
 use Rattle.table.specs.declared.Object.{Object}
 use Rattle.table.specs.declared.Mapping.{Mapping}
-use Rattle.table.specs.Records.{isSpace, spaceAt, ofSpace, extent}
+use Rattle.table.specs.Records.{isSpace, objectAt, spaceAt, ofSpace, extent}
+use Rattle.table.specs.Spaces.{reservedOf}
 use Rattle.digests.specs.declared.Digest.{Digest}
 use Rattle.digests.specs.Digest.{Seen}
 use Rattle.places.specs.declared.Target.{Target}
-use Rattle.places.specs.Places.{blockedIn, taken}
-use Rattle.places.specs.Placing.{Site}
+use Rattle.places.specs.Places.{blockedIn}
 
 module _ (os : List Object) (ms : List Mapping) (t : Target) (b : ℕ) (d : Digest) (h : Seen os (t .space) b d) where
   pub known-is : (k : Bool) → k ≡ isSpace (d .first .kind) → k ≡ spaceAt os (t .space)
@@ -28,13 +28,13 @@ module _ (os : List Object) (ms : List Mapping) (t : Target) (b : ℕ) (d : Dige
   unfolding spaceAt
   second-is k e = e ∙ ap (λ (o : Object). isSpace (o .kind)) (h .second)
 
-  pub site-is : (q : Range) (m r : Bool) (bl : Blocked) → q ≡ span (t .address) (t .length) → m ≡ taken ms (t .space) (t .length) (t .address) → r ≡ any (share q) (blocked (t .space) (d .blocks))
-      → blockedList bl ≡ blocked (t .space) (d .blocks) ++ map extent (keep (ofSpace (t .space)) ms) → Site os ms t (d .alignment) (d .first .allow) bl r m
+  -- what the range asked touches
+  pub reserved-is : (q : Range) (r : Bool) → q ≡ span (t .address) (t .length) → r ≡ any (share q) (blocked (t .space) (d .blocks)) → r ≡ any (share (span (t .address) (t .length))) (reservedOf os (t .space))
+  reserved-is q r eq er = er ∙ rw (eq, h .blocks .same (t .space))
+
+  pub allow-is : d .first .allow ≡ objectAt os (t .space) .allow
+  allow-is = ap (λ (o : Object). o .allow) (h .first)
+
+  pub blocked-is : (bl : Blocked) → blockedList bl ≡ blocked (t .space) (d .blocks) ++ map extent (keep (ofSpace (t .space)) ms) → blockedList bl ≡ blockedIn os ms (t .space)
   unfolding blockedIn
-  site-is q m r bl eq em er el = record {
-    alignment = h .alignment;
-    allow = ap (λ (o : Object). o .allow) (h .first);
-    blocked = el ∙ ap (λ (rs : List Range). rs ++ map extent (keep (ofSpace (t .space)) ms)) (h .blocks .same (t .space));
-    reserved = er ∙ rw (eq, h .blocks .same (t .space));
-    mapped = em;
-  }
+  blocked-is bl el = el ∙ ap (λ (rs : List Range). rs ++ map extent (keep (ofSpace (t .space)) ms)) (h .blocks .same (t .space))

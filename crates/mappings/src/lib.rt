@@ -80,16 +80,20 @@ pub fn fixed_passes(flags: u32, x: u64, n: u64) -> bool
     command::both(command::is_fixed(flags), ranges::passes_max(x, n))
 }
 
-// The place of a target, by the digest of the objects for its space. `touched` tells whether the range asked touches a mapping.
+// The place of a target, by the digest of the objects for its space. `touched` tells whether the range asked touches a mapping. What blocks is gathered for an automatic
+// address alone.
 pub fn place_in(d: Digest, ms: [Mapping; 128], t: Target, touched: bool) -> Placing
     ensures { λ p. ⌜ ((os : List Object) (b : ℕ) → Seen os (t .space) b d → touched ≡ taken ms (t .space) (t .length) (t .address) → Placed os ms t p) ⌝ }
 {
+    let blocks = d.blocks;
+    if command::is_fixed(t.flags) {
+        let reserved = blocks::is_blocked(blocks, t.space, ranges::span_of(t.address, t.length));
+        return places::place_fixed(d.alignment, t, reserved, touched);
+    }
     let o = d.first;
     let allow = o.allow;
-    let blocks = d.blocks;
-    let reserved = blocks::is_blocked(blocks, t.space, ranges::span_of(t.address, t.length));
     let blocked = blocking::blocked_in(blocks, ms, t.space);
-    places::place_for(d.alignment, allow, blocked, t, reserved, touched)
+    places::place_automatic(d.alignment, allow, blocked, t)
 }
 
 // ---- MAP

@@ -1,2 +1,4 @@
 pub mod Judging
 pub mod Paging
+pub mod Passing
+pub mod Zeroing

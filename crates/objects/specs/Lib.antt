@@ -1,3 +1,4 @@
--- Good objects as the code checks them, and the pages of all spaces.
+-- Good objects as the code checks them, the pages of all spaces, and what one pass over the records tells.
 pub mod Judged
 pub mod Pages
+pub mod Passed

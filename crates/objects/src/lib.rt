@@ -1,31 +1,45 @@
 // Whether the objects of a table are good: each record by itself and by the one record that it names.
 // Records go into the tests one by one; the array stays in the loop.
 ghost use mathlib.Core.Path.{_≡_};
-ghost use mathlib.Core.Bool.{true};
+ghost use mathlib.Core.Bool.{false};
+ghost use mathlib.Core.List.{map};
 ghost use Prim.Native.Nat.{_<_};
 ghost use lib.ListN.{drop};
 ghost use Rattle.rangelists.specs.Listed.{reserved, allowed};
 ghost use Rattle.wire.specs.Fields.{zeros};
 ghost use Rattle.table.specs.Good.{reservedRest, allowRest, noDevice, noList};
-ghost use Rattle.table.specs.Checked.{objectsOk};
-ghost use Rattle.objects.specs.Pages.{Pages, slotBy, slotOf, askBy, askOf};
+ghost use Rattle.table.specs.Spaces.{pageFor};
+ghost use Rattle.raw.specs.Raw.{decoded};
+ghost use Rattle.objects.specs.Pages.{slotBy, slotOf, askBy, askOf};
 ghost use Rattle.objects.specs.Judged.{deviceFits, listFits, homeFits, attachFits, fitsBy, placeBy, namedPlace};
+ghost use Rattle.objects.specs.Passed.{Passed, freeAfter};
+use rangelists::Found;
+use raw::RawObject;
 use table::Attachment;
 use table::Kind;
 use table::Object;
 
-// Whether every place from `from` on is zero.
+// Whether the objects are good. If so: whether a device is attached to the space that was asked for, the alignment of that space, the lowest free record, and the alignment of
+// each space by its id, 0 where the id is no space.
+pub struct Pass {
+    pub good: bool,
+    pub held: bool,
+    pub alignment: u64,
+    pub free: Found,
+    pub pages: [u64; 33],
+}
+
+// Whether every place from `from` on is zero. The bits of all places are joined, so that the loop has no branch.
 fn zero_from(xs: &[u64], from: usize) -> bool
     ensures { λ b. ⌜ b ≡ zeros (drop from (now (xs .entry))) ⌝ }
 {
+    let mut bits: u64 = 0;
     let mut i = from;
     while i < xs.len() {
-        if xs[i] != 0 {
-            return false;
-        }
+        bits = bits | xs[i];
         i += 1;
     }
-    true
+    bits == 0
 }
 
 fn reserved_rest(o: Object) -> bool
@@ -44,12 +58,13 @@ fn allow_rest(o: Object) -> bool
     command::both(zero_from(&l.starts, n), zero_from(&l.lasts, n))
 }
 
-// Whether what only a device has is zero.
+// Whether what only a device has is zero: with no range in use every place is asked.
 fn no_device(o: Object) -> bool
     ensures { λ b. ⌜ b ≡ noDevice o ⌝ }
 {
     let l = o.reserved;
-    command::both(o.bitmap == 0, command::both(l.count == 0, reserved_rest(o)))
+    let rest = command::both(zero_from(&l.starts, 0), zero_from(&l.lasts, 0));
+    command::both(o.bitmap == 0, command::both(l.count == 0, rest))
 }
 
 // Whether what only a space has is zero.
@@ -57,7 +72,8 @@ fn no_list(o: Object) -> bool
     ensures { λ b. ⌜ b ≡ noList o ⌝ }
 {
     let l = o.allow;
-    command::both(l.count == 0, allow_rest(o))
+    let rest = command::both(zero_from(&l.starts, 0), zero_from(&l.lasts, 0));
+    command::both(l.count == 0, rest)
 }
 
 // Whether bind takes the fields of a device.
@@ -155,24 +171,6 @@ fn named_place(k: Kind) -> usize
     }
 }
 
-// One pass: each record, with the record that it names.
-pub fn objects_good(os: [Object; 32]) -> bool
-    ensures { λ b. ⌜ b ≡ objectsOk os ⌝ }
-{
-    let mut i: usize = 0;
-    while i < 32 {
-        let o = os[i];
-        let k = o.kind;
-        let j = named_place(k);
-        let h = os[j];
-        if !object_good(h, o) {
-            return false;
-        }
-        i += 1;
-    }
-    true
-}
-
 // The slot that a device asks a page of: that of its space, and 0 where it has none of the 32.
 fn slot_by(a: Attachment) -> usize
     ensures { λ s. ⌜ (s ≡ slotBy a) × (s < 33) ⌝ }
@@ -219,22 +217,77 @@ fn ask_of(bitmap: u64, k: Kind) -> u64
     }
 }
 
-// The alignment of each space by its id, 0 where the id is no space. One pass: each slot keeps the highest page asked of it.
-pub fn pages_of(os: [Object; 32]) -> [u64; 33]
-    requires { ⌜ objectsOk os ≡ true ⌝ }
-    ensures { λ pages. ⌜ Pages os pages ⌝ }
+// What an object asks of the alignment of space s.
+fn page_for(o: Object, s: u32) -> u64
+    ensures { λ p. ⌜ p ≡ pageFor s o ⌝ }
+{
+    let k = o.kind;
+    if table::attached_to(k, s) {
+        return alignment::smallest_page(o.bitmap);
+    }
+    1
+}
+
+// The lowest free record so far, after that of this kind at i.
+fn free_after(free: Found, i: usize, k: Kind) -> Found
+    ensures { λ f. ⌜ f ≡ freeAfter free i k ⌝ }
+{
+    match free {
+        Found::At(_) => free,
+        Found::Nothing => {
+            if table::is_free(k) {
+                return Found::At(i);
+            }
+            free
+        }
+    }
+}
+
+// Of objects that are not good nothing more is told.
+fn bad_pass() -> Pass
+    ensures { λ p. ⌜ p .good ≡ false ⌝ }
+{
+    Pass {
+        good: false,
+        held: false,
+        alignment: 1,
+        free: Found::Nothing,
+        pages: [0; 33],
+    }
+}
+
+// One pass over the object records: each with the record that it names, and what calls on space s ask of them.
+// Each slot of `pages` keeps the highest page asked of it.
+pub fn pass_over(rs: [RawObject; 32], s: u32) -> Pass
+    ensures { λ p. ⌜ Passed (map decoded rs) s p ⌝ }
 {
     let mut pages: [u64; 33] = [0; 33];
+    let mut free = Found::Nothing;
+    let mut best: u64 = 1;
+    let mut held = false;
     let mut i: usize = 0;
     while i < 32 {
-        let o = os[i];
+        let o = raw::decode(rs[i]);
         let k = o.kind;
-        let bitmap = o.bitmap;
-        let s = slot_of(i + 1, k);
-        let p = ask_of(bitmap, k);
-        let q = ranges::higher(pages[s], p);
-        pages[s] = q;
+        let j = named_place(k);
+        let h = raw::decode(rs[j]);
+        if !object_good(h, o) {
+            return bad_pass();
+        }
+        let slot = slot_of(i + 1, k);
+        let page = ask_of(o.bitmap, k);
+        let q = ranges::higher(pages[slot], page);
+        pages[slot] = q;
+        free = free_after(free, i, k);
+        best = ranges::higher(best, page_for(o, s));
+        held = command::either(held, table::attached_to(k, s));
         i += 1;
     }
-    pages
+    Pass {
+        good: true,
+        held,
+        alignment: best,
+        free,
+        pages,
+    }
 }

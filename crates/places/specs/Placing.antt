@@ -1,24 +1,16 @@
 -- The answer of the code that finds a place: the errno of the first check that fires, and the address where none does.
 use Prim.Native.Nat.{ℕ}
 use mathlib.Core.Path.{_≡_}
-use mathlib.Core.Bool.{Bool}
 use mathlib.Core.List.{List}
 use Rattle.lists.specs.Checks.{first}
-use Rattle.lists.specs.Search.{any}
-use Rattle.ranges.specs.Ranges.{span, share}
 use Rattle.alignment.specs.declared.Spot.{Spot}
 use Rattle.alignment.specs.declared.Spot.the-variants.{Nowhere, At}
-use Rattle.rangelists.specs.declared.Allowed.{Allowed}
-use Rattle.placement.specs.declared.Blocked.{Blocked}
-use Rattle.placement.specs.Candidates.{blockedList}
 use Rattle.command.specs.Flags.{bit}
 use Rattle.table.specs.declared.Object.{Object}
 use Rattle.table.specs.declared.Mapping.{Mapping}
-use Rattle.table.specs.Records.{objectAt}
-use Rattle.table.specs.Spaces.{reservedOf, alignment}
 use Rattle.places.specs.declared.Target.{Target}
 use Rattle.places.specs.declared.Placing.{Placing}
-use Rattle.places.specs.Places.{blockedIn, taken, automatic, spotAddress, automaticChecks, placeChecks, placeAt}
+use Rattle.places.specs.Places.{automatic, spotAddress, automaticChecks, placeChecks, placeAt}
 
 abbrev pub placingOf : Spot → Placing
 placingOf Nowhere = record { errno = 28; address = 0 }
@@ -31,11 +23,3 @@ pub record AutomaticPlaced (os : List Object) (ms : List Mapping) (s n : ℕ) (p
 pub record Placed (os : List Object) (ms : List Mapping) (t : Target) (p : Placing) : Type 0 where
   pub errno : p .errno ≡ first (placeChecks os ms (t .space) (bit 0 (t .flags)) (t .length) (t .address)) 0
   pub address : p .errno ≡ 0 → p .address ≡ placeAt os ms (t .space) (bit 0 (t .flags)) (t .length) (t .address)
-
--- what the code is told of the space and the range asked: alignment, allow list, blocked ranges, and what the range touches
-pub record Site (os : List Object) (ms : List Mapping) (t : Target) (a : ℕ) (l : Allowed) (b : Blocked) (r m : Bool) : Type 0 where
-  pub alignment : a ≡ alignment os (t .space)
-  pub allow : l ≡ objectAt os (t .space) .allow
-  pub blocked : blockedList b ≡ blockedIn os ms (t .space)
-  pub reserved : r ≡ any (share (span (t .address) (t .length))) (reservedOf os (t .space))
-  pub mapped : m ≡ taken ms (t .space) (t .length) (t .address)

@@ -1,17 +1,19 @@
 // Where a new mapping lands: at the address asked, or at the lowest candidate.
+ghost use mathlib.Core.Bool.{true, false};
 ghost use mathlib.Core.List.{List};
 ghost use mathlib.Core.Path.{_≡_};
 ghost use Prim.Native.Nat.{ℕ};
 ghost use Rattle.lists.specs.Checks.{first};
 ghost use Rattle.lists.specs.Search.{any};
 ghost use Rattle.ranges.specs.Ranges.{span, share};
+ghost use Rattle.command.specs.Flags.{bit};
 ghost use Rattle.placement.specs.Candidates.{blockedList};
 ghost use Rattle.table.specs.declared.Object.{Object};
 ghost use Rattle.table.specs.declared.Mapping.{Mapping};
 ghost use Rattle.table.specs.Records.{objectAt};
 ghost use Rattle.table.specs.Spaces.{reservedOf, alignment};
-ghost use Rattle.places.specs.Places.{blockedIn, fixedChecks};
-ghost use Rattle.places.specs.Placing.{Placed, placingOf, AutomaticPlaced, Site};
+ghost use Rattle.places.specs.Places.{blockedIn, taken, fixedChecks};
+ghost use Rattle.places.specs.Placing.{Placed, placingOf, AutomaticPlaced};
 use alignment::Spot;
 use placement::Blocked;
 use placement::Want;
@@ -82,22 +84,20 @@ fn automatic_place(a: u64, allow: Allowed, blocked: Blocked, n: u64) -> Placing
     placing_of(spot)
 }
 
-// The place of a target in a space with this alignment, allow list and blocked ranges. `reserved` and `mapped` tell what the range asked touches.
-pub fn place_for(
-    a: u64,
-    allow: Allowed,
-    blocked: Blocked,
-    t: Target,
-    reserved: bool,
-    mapped: bool,
-) -> Placing
-    ensures { λ p. ⌜ ((os : List Object) (ms : List Mapping) → Site os ms t a allow blocked reserved mapped → Placed os ms t p) ⌝ }
+// The place of a target with a fixed address. `reserved` and `mapped` tell what the range asked touches.
+pub fn place_fixed(a: u64, t: Target, reserved: bool, mapped: bool) -> Placing
+    ensures { λ p. ⌜ ((os : List Object) (ms : List Mapping) → bit 0 (t .flags) ≡ true → a ≡ alignment os (t .space) → reserved ≡ any (share (span (t .address) (t .length))) (reservedOf os (t .space)) → mapped ≡ taken ms (t .space) (t .length) (t .address) → Placed os ms t p) ⌝ }
 {
-    let n = t.length;
-    let x = t.address;
-    if command::is_fixed(t.flags) {
-        let errno = fixed_errno(a, n, x, reserved, mapped);
-        return Placing { errno, address: x };
+    let errno = fixed_errno(a, t.length, t.address, reserved, mapped);
+    Placing {
+        errno,
+        address: t.address,
     }
-    automatic_place(a, allow, blocked, n)
+}
+
+// The place of any other target, in a space with this alignment, allow list and blocked ranges.
+pub fn place_automatic(a: u64, allow: Allowed, blocked: Blocked, t: Target) -> Placing
+    ensures { λ p. ⌜ ((os : List Object) (ms : List Mapping) → bit 0 (t .flags) ≡ false → a ≡ alignment os (t .space) → allow ≡ objectAt os (t .space) .allow → blockedList blocked ≡ blockedIn os ms (t .space) → Placed os ms t p) ⌝ }
+{
+    automatic_place(a, allow, blocked, t.length)
 }

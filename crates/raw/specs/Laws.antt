@@ -6,7 +6,7 @@ use mathlib.Core.Bool.{true, false, _&&_, _||_}
 use mathlib.Core.List.{List, [], _∷_, map}
 use native.Mathlib.Omega.{arith}
 use lib.Dec.{eqb, leb}
-use lib.ListN.{set}
+use lib.ListN.{getD, set, List·getD-map}
 use borrow.Author.Tests.{eqb-true, leb-true, leb-false, ne-eqb}
 use Rattle.lists.specs.Tests.{by-test, contrary, and-left, and-right}
 use Rattle.lists.specs.Search.{all}
@@ -16,12 +16,12 @@ use Rattle.table.specs.declared.Kind.the-variants.{Free, Space, Device}
 use Rattle.table.specs.declared.Object.{Object}
 use Rattle.table.specs.declared.Mapping.{Mapping}
 use Rattle.table.specs.declared.Table.{Table}
-use Rattle.table.specs.Records.{homeOf, spaceAt, objectAt}
+use Rattle.table.specs.Records.{zeroObject, homeOf, spaceAt, objectAt}
 use Rattle.table.specs.Good.{deviceNames, good}
 use Rattle.table.specs.Checked.{objectOk, objectsOk, good-grouped}
 use Rattle.raw.specs.declared.RawObject.{RawObject}
 use Rattle.raw.specs.declared.Head.{Head}
-use Rattle.raw.specs.Raw.{kindOf, tagOf, decoded, encoded, known, tableOf, headOf}
+use Rattle.raw.specs.Raw.{zeroRaw, kindOf, tagOf, decoded, encoded, known, tableOf, headOf}
 
 -- ---- one kind
 
@@ -59,6 +59,11 @@ encode-decode r e = let b = numbers-back (r .kind) (r .home) e in rw (b .0, b .1
 pub decode-encode : (o : Object) → decoded (encoded o) ≡ o
 unfolding encoded decoded
 decode-encode o = rw (kind-back (o .kind)) refl
+
+-- the objects of records, place by place
+pub decoded-at : (rs : List RawObject) (i : ℕ) → getD (map decoded rs) i zeroObject ≡ decoded (getD rs i zeroRaw)
+unfolding decoded
+decoded-at rs i = List·getD-map decoded rs i zeroRaw
 
 -- numbers that name no kind are read as a device attached to no space
 unknown-kind : (kind home : ℕ) → (eqb kind 3 || (leb kind 2 && eqb home 0)) ≡ false → kindOf kind home ≡ Device (Attached 0)
@@ -103,7 +108,8 @@ pub head-back : (h : Head) (ms : List Mapping) → good (tableOf h ms) ≡ true 
 unfolding headOf tableOf
 head-back h ms g = rw (same-numbers (h .objects) (good-known h ms g))
 
-same-objects : (os : List Object) → map decoded (map encoded os) ≡ os
+-- THE LAW: objects come back from their numbers
+pub same-objects : (os : List Object) → map decoded (map encoded os) ≡ os
 same-objects [] = refl
 same-objects (o ∷ os) = rw (decode-encode o, same-objects os)
 

@@ -1,5 +1,6 @@
 // The head of a table as a kernel keeps it: the limit and the object records, as numbers only. Every field is a u32 or a u64, so that whatever C left there is read as it is;
 // a kind that is none becomes a device attached to no space, which no good table has.
+ghost use mathlib.Core.List.{map};
 ghost use mathlib.Core.Path.{_≡_};
 ghost use Rattle.raw.specs.Raw.{reservedFrom, kindOf, tagOf, decoded, encoded, freshHead};
 use rangelists::Allowed;
@@ -131,6 +132,20 @@ pub fn encode(o: Object) -> RawObject
         froms,
         ends,
     }
+}
+
+// The numbers of all object records.
+pub fn encode_all(os: [Object; 32]) -> [RawObject; 32]
+    ensures { λ rs. ⌜ rs ≡ map encoded os ⌝ }
+{
+    let mut rs = [encode(os[0]); 32];
+    let mut i: usize = 0;
+    while i < 32 {
+        let r = encode(os[i]);
+        rs[i] = r;
+        i += 1;
+    }
+    rs
 }
 
 // The head of a table with every record released.

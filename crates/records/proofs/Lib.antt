@@ -2,3 +2,4 @@ pub mod Choosing
 pub mod Touching
 pub mod Comparing
 pub mod Marking
+pub mod Ordering

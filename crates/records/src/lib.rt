@@ -1,12 +1,12 @@
 // The mapping records of a table, checked: each by itself, each backing, and each pair.
 // Every function takes the array once; its loops hand on elements and numbers only.
 ghost use mathlib.Core.Path.{_≡_};
-ghost use mathlib.Core.Bool.{true};
+ghost use mathlib.Core.Bool.{true, false};
 ghost use Prim.Native.Nat.{_+_, _≤_, _<_, _^_, min};
 ghost use lib.ListN.{getD};
 ghost use Rattle.lists.specs.Search.{all};
 ghost use Rattle.lists.specs.Pairs.{clashes};
-ghost use Rattle.ranges.specs.Ranges.{range, lastOf};
+ghost use Rattle.ranges.specs.Ranges.{U64MAX, range, lastOf};
 ghost use Rattle.table.specs.Records.{touches};
 ghost use Rattle.table.specs.Good.{together, lengthFits, rightsFit, endsFit, differ};
 ghost use Rattle.table.specs.Checked.{recordAlone};
@@ -164,8 +164,8 @@ fn start_after(space: u32, i: usize) -> usize
     if space == 0 { 128 } else { i + 1 }
 }
 
-// Whether two mappings of one space share an address.
-pub fn some_together(ms: [Mapping; 128]) -> bool
+// Whether two mappings of one space share an address, by every pair.
+fn some_pair(ms: [Mapping; 128]) -> bool
     ensures { λ b. ⌜ b ≡ clashes together ms ⌝ }
 {
     let mut i: usize = 0;
@@ -183,6 +183,63 @@ pub fn some_together(ms: [Mapping; 128]) -> bool
         i += 1;
     }
     false
+}
+
+// Where the next mapping of a space may begin, after one that ends at `last`.
+fn floor_after(last: u64) -> u64
+    ensures { λ r. ⌜ r ≡ min (last + 1) U64MAX ⌝ }
+{
+    if last < ranges::U64MAX {
+        last + 1
+    } else {
+        last
+    }
+}
+
+// Whether a record keeps the order: it is released, or it begins from the floor of its space on and ends before U64MAX, after which no floor is left.
+fn keeps_order(space: u32, floor: u64, address: u64, last: u64) -> bool
+    ensures { λ b. ⌜ (b ≡ true → 0 < space → (floor ≤ address) × (last < U64MAX)) ⌝ }
+{
+    if space == 0 {
+        return true;
+    }
+    if address < floor {
+        return false;
+    }
+    if last == ranges::U64MAX {
+        return false;
+    }
+    true
+}
+
+// Whether the mappings of each space ascend in the order of the records, so that none touches another.
+// Place s of `floors` has where the next mapping of space s may begin; 32 and the ids above it share place 32, and released records have place 0 to themselves.
+fn is_ordered(ms: [Mapping; 128]) -> bool
+    ensures { λ b. ⌜ (b ≡ true → clashes together ms ≡ false) ⌝ }
+{
+    let mut floors: [u64; 33] = [0; 33];
+    let mut i: usize = 0;
+    while i < 128 {
+        let m = ms[i];
+        let k = page_place(m.space);
+        let last = last_address(m);
+        if !keeps_order(m.space, floors[k], m.address, last) {
+            return false;
+        }
+        floors[k] = floor_after(last);
+        i += 1;
+    }
+    true
+}
+
+// Whether two mappings of one space share an address. Records in order need no pairs.
+pub fn some_together(ms: [Mapping; 128]) -> bool
+    ensures { λ b. ⌜ b ≡ clashes together ms ⌝ }
+{
+    if is_ordered(ms) {
+        return false;
+    }
+    some_pair(ms)
 }
 
 // ---- backings

@@ -2,88 +2,9 @@
 #![forbid(unsafe_op_in_unsafe_fn)]
 #![warn(missing_docs)]
 
-mod raw {
-    use core::mem::size_of;
+pub mod raw;
 
-    #[repr(C)]
-    #[derive(Clone, Copy)]
-    pub struct Object {
-        pub kind: u32,
-        pub home: u32,
-        pub bitmap: u64,
-        pub reserved_count: u32,
-        pub allow_count: u32,
-        pub reserved_starts: [u64; 4],
-        pub reserved_lasts: [u64; 4],
-        pub allow_starts: [u64; 8],
-        pub allow_lasts: [u64; 8],
-    }
-
-    #[repr(C)]
-    #[derive(Clone)]
-    pub struct Head {
-        pub limit: u64,
-        pub objects: [Object; 32],
-    }
-
-    #[repr(C)]
-    #[derive(Clone, Copy)]
-    pub struct Reserved {
-        pub count: u32,
-        pub spare: u32,
-        pub starts: [u64; 4],
-        pub lasts: [u64; 4],
-    }
-
-    #[repr(C)]
-    pub struct Number {
-        pub result: i32,
-        pub value: u64,
-    }
-
-    const _: () = assert!(size_of::<Object>() == 216);
-    const _: () = assert!(size_of::<Head>() == 6920);
-    const _: () = assert!(size_of::<super::Mapping>() == 40);
-    const _: () = assert!(size_of::<Reserved>() == 72);
-    const _: () = assert!(size_of::<Number>() == 16);
-
-    extern "C" {
-        pub fn iommufd_fresh(head: *mut Head, mappings: *mut super::Mapping, count: usize, limit: u64) -> i32;
-        pub fn iommufd_call(
-            head: *mut Head,
-            mappings: *mut super::Mapping,
-            count: usize,
-            request: u32,
-            command: *mut u8,
-            command_size: usize,
-            area: *mut u8,
-            area_size: usize,
-        ) -> i32;
-        pub fn iommufd_preview(
-            head: *const Head,
-            mappings: *const super::Mapping,
-            count: usize,
-            request: u32,
-            command: *mut u8,
-            command_size: usize,
-            area: *mut u8,
-            area_size: usize,
-        ) -> i32;
-        pub fn iommufd_bind(head: *mut Head, mappings: *mut super::Mapping, count: usize, bitmap: u64, reserved: Reserved) -> i32;
-        pub fn iommufd_attach(head: *mut Head, mappings: *mut super::Mapping, count: usize, device: u32, space: u32) -> i32;
-        pub fn iommufd_detach(head: *mut Head, mappings: *mut super::Mapping, count: usize, device: u32) -> i32;
-        pub fn iommufd_reach(
-            head: *const Head,
-            mappings: *const super::Mapping,
-            count: usize,
-            device: u32,
-            address: u64,
-            length: u64,
-            write: u32,
-        ) -> Number;
-        pub fn iommufd_charge(head: *const Head, mappings: *const super::Mapping, count: usize) -> Number;
-    }
-}
+use raw::Mapping;
 
 /// The request numbers of the seven commands.
 pub mod request {
@@ -114,26 +35,6 @@ pub const READABLE: u32 = 4;
 #[derive(Clone, Copy, Debug, PartialEq, Eq)]
 pub struct Errno(pub i32);
 
-/// A mapping record. A released record is all zero.
-#[repr(C)]
-#[derive(Clone, Copy, Debug, Default, PartialEq, Eq)]
-pub struct Mapping {
-    /// The space's id, 0 where the record is released.
-    pub space: u32,
-    /// Bit 0 write, bit 1 read.
-    pub rights: u32,
-    /// 1 where the founding MAP was writeable.
-    pub founder: u32,
-    /// The backing's number, 1 to 128.
-    pub backing: u32,
-    /// The first address.
-    pub address: u64,
-    /// The length in bytes.
-    pub length: u64,
-    /// The first byte of memory.
-    pub memory: u64,
-}
-
 /// The head and the mapping records of one table.
 #[derive(Clone)]
 pub struct Table {
@@ -148,19 +49,8 @@ fn done(result: i32) -> Result<u32, Errno> {
 impl Table {
     /// An empty table with a charge limit in pages, at most 2^36.
     pub fn new(limit: u64) -> Result<Table, Errno> {
-        let object = raw::Object {
-            kind: 0,
-            home: 0,
-            bitmap: 0,
-            reserved_count: 0,
-            allow_count: 0,
-            reserved_starts: [0; 4],
-            reserved_lasts: [0; 4],
-            allow_starts: [0; 8],
-            allow_lasts: [0; 8],
-        };
         let mut t = Table {
-            head: Box::new(raw::Head { limit: 0, objects: [object; 32] }),
+            head: Box::default(),
             mappings: Box::new([Mapping::default(); 128]),
         };
         // SAFETY: head and mappings are owned, distinct and valid for the call; the same holds of every call below.

@@ -2,31 +2,38 @@
 use native.Mathlib.Omega.{arith}
 use borrow.Author.Needs.{needs}
 use Prim.Native.Nat.{_-_, _≤_}
+use mathlib.Core.Path.{_≡_}
+use mathlib.Core.List.{map}
+use lib.ListN.{length}
 use Rattle.lists.specs.Update.{length-mapped}
-use Rattle.facts.proofs.Gathering.{Gathering, gathering-start, gathering-on, gathering-next, gathering-end}
+use Rattle.raw.specs.Raw.{decoded}
+use Rattle.facts.proofs.Gathering.{Gathering, gathering-start, gathered-on, gathered-next, gathering-end}
 use Rattle.facts.proofs.blocks_of.Statement.{statement}
 use Rattle.facts.proofs.blocks_of.Tie as tie
 
 abbrev Inv-loop2 : tie.InvT-loop2
-Inv-loop2 os spaces₀ starts₀ lasts₀ n₀ i l s m j₀ spaces starts lasts n j = Gathering os i j n spaces starts lasts × (j ≤ m)
+Inv-loop2 rs spaces₀ starts₀ lasts₀ n₀ i l s m j₀ spaces starts lasts n j = (length rs ≡ 32) × Gathering (map decoded rs) i j n spaces starts lasts × (j ≤ m)
 
 abbrev μ-loop2 : tie.MeasureT-loop2
-μ-loop2 os spaces₀ starts₀ lasts₀ n₀ i l s m j₀ spaces starts lasts n j = m - j
+μ-loop2 rs spaces₀ starts₀ lasts₀ n₀ i l s m j₀ spaces starts lasts n j = m - j
 
 abbrev Inv-loop : tie.InvT-loop
-Inv-loop os spaces₀ starts₀ lasts₀ n₀ i₀ spaces starts lasts n i = Gathering os i 0 n spaces starts lasts
+Inv-loop rs spaces₀ starts₀ lasts₀ n₀ i₀ spaces starts lasts n i = (length rs ≡ 32) × Gathering (map decoded rs) i 0 n spaces starts lasts
 
 abbrev μ-loop : tie.MeasureT-loop
-μ-loop os spaces₀ starts₀ lasts₀ n₀ i₀ spaces starts lasts n i = 32 - i
+μ-loop rs spaces₀ starts₀ lasts₀ n₀ i₀ spaces starts lasts n i = 32 - i
 
 loop-holds : tie.Need-loop-holds Inv-loop2 μ-loop2 Inv-loop μ-loop
-loop-holds c = gathering-start _ (search (needs, length-mapped))
+loop-holds c = (search (needs, length-mapped), gathering-start (c .args .t1) (search (needs, length-mapped)))
 
-mul-o : tie.Need-mul-o Inv-loop2 μ-loop2 Inv-loop μ-loop
-mul-o c = search needs
+mul-decode : tie.Need-mul-decode Inv-loop2 μ-loop2 Inv-loop μ-loop
+mul-decode c = search needs
 
-array-copy-out-o : tie.Need-array-copy-out-o Inv-loop2 μ-loop2 Inv-loop μ-loop
-array-copy-out-o c = search needs
+array-copy-out-decode : tie.Need-array-copy-out-decode Inv-loop2 μ-loop2 Inv-loop μ-loop
+array-copy-out-decode c = search needs
+
+decode-requires : tie.Need-decode-requires Inv-loop2 μ-loop2 Inv-loop μ-loop
+decode-requires c κs = search needs
 
 home-of-requires : tie.Need-home-of-requires Inv-loop2 μ-loop2 Inv-loop μ-loop
 home-of-requires c κs = search needs
@@ -35,7 +42,7 @@ places-requires : tie.Need-places-requires Inv-loop2 μ-loop2 Inv-loop μ-loop
 places-requires c κs = search needs
 
 loop2-holds : tie.Need-loop2-holds Inv-loop2 μ-loop2 Inv-loop μ-loop
-loop2-holds c = (c .before .before .before .before .before .loop .inv, omega arith)
+loop2-holds c = (c .before .before .before .before .before .before .loop .inv .0, c .before .before .before .before .before .before .loop .inv .1, omega arith)
 
 mul-spaces : tie.Need-mul-spaces Inv-loop2 μ-loop2 Inv-loop μ-loop
 mul-spaces c = search needs
@@ -77,7 +84,7 @@ loop2-less : tie.Need-loop2-less Inv-loop2 μ-loop2 Inv-loop μ-loop
 loop2-less c = search needs
 
 loop2-again : tie.Need-loop2-again Inv-loop2 μ-loop2 Inv-loop μ-loop
-loop2-again c = (gathering-on _ _ _ _ _ _ _ (c .before .before .before .loop2 .inv .0) (omega arith) _ (omega arith) (omega arith) (omega arith) (omega arith) (c .before .before .before .before .before .home-of .ensures), omega arith)
+loop2-again c = (c .before .before .before .loop2 .inv .0, gathered-on (c .before .before .before .before .before .before .before .before .before .before .before .args .t1) _ _ _ _ _ _ (c .before .before .before .loop2 .inv .1) (omega arith) _ (c .before .before .before .before .before .before .before .decode .ensures) _ (omega arith) (omega arith) (omega arith) (omega arith) (c .before .before .before .before .before .home-of .ensures), omega arith)
 
 add-i : tie.Need-add-i Inv-loop2 μ-loop2 Inv-loop μ-loop
 add-i c = search needs
@@ -86,10 +93,10 @@ loop-less : tie.Need-loop-less Inv-loop2 μ-loop2 Inv-loop μ-loop
 loop-less c = search needs
 
 loop-again : tie.Need-loop-again Inv-loop2 μ-loop2 Inv-loop μ-loop
-loop-again c = gathering-next _ _ _ _ _ _ _ (c .before .loop2 .inv .0) (omega arith) (omega arith) (omega arith)
+loop-again c = (c .before .loop2 .inv .0, gathered-next (c .before .before .before .before .before .before .before .before .before .args .t1) _ _ _ _ _ _ (c .before .loop2 .inv .1) (omega arith) _ (c .before .before .before .before .before .decode .ensures) (omega arith) (omega arith))
 
 returns : tie.Need-returns Inv-loop2 μ-loop2 Inv-loop μ-loop
-returns c = gathering-end _ _ _ _ _ _ (c .before .loop .inv) (omega arith)
+returns c = gathering-end _ _ _ _ _ _ (c .before .loop .inv .1) (omega arith)
 
 pub blocks-of-spec : {M : Type 1} → statement M
 blocks-of-spec =
@@ -100,8 +107,9 @@ blocks-of-spec =
     Inv-loop
     μ-loop
     loop-holds
-    mul-o
-    array-copy-out-o
+    mul-decode
+    array-copy-out-decode
+    decode-requires
     home-of-requires
     places-requires
     loop2-holds

@@ -1,8 +1,12 @@
 -- The place, by what the digest tells.
-use Rattle.mappings.specs.Sites.{site-is}
+use mathlib.Core.Path.{sym, _∙_}
+use Rattle.mappings.specs.Sites.{reserved-is, allow-is, blocked-is}
 use borrow.Author.Needs.{needs}
 use Rattle.mappings.proofs.place_in.Statement.{statement}
 use Rattle.mappings.proofs.place_in.Tie as tie
+
+is-fixed-requires : tie.Need-is-fixed-requires
+is-fixed-requires c κs = search needs
 
 span-of-requires : tie.Need-span-of-requires
 span-of-requires c κs = search needs
@@ -10,16 +14,30 @@ span-of-requires c κs = search needs
 is-blocked-requires : tie.Need-is-blocked-requires
 is-blocked-requires c κs = search needs
 
+place-fixed-requires : tie.Need-place-fixed-requires
+place-fixed-requires c κs = search needs
+
+returns : tie.Need-returns
+returns c = λ os b h m. c .place-fixed .ensures os (c .before .before .before .before .before .before .args .ms) (sym (c .before .before .before .before .is-fixed .ensures) ∙ c .before .before .before .if1 .taken) (h .alignment) (reserved-is os (c .before .before .before .before .before .before .args .ms) (c .before .before .before .before .before .before .args .t) b (c .before .before .before .before .before .before .args .d) h _ _ (c .before .before .span-of .ensures) (c .before .is-blocked .ensures)) m
+
 blocked-in-requires : tie.Need-blocked-in-requires
 blocked-in-requires c κs = search needs
 
-place-for-requires : tie.Need-place-for-requires
-place-for-requires c κs = search needs
+place-automatic-requires : tie.Need-place-automatic-requires
+place-automatic-requires c κs = search needs
 
-returns : tie.Need-returns
-returns c = λ os b h m. c .place-for .ensures os _ (site-is os (c .before .before .before .before .before .before .before .args .ms) (c .before .before .before .before .before .before .before .args .t) b (c .before .before .before .before .before .before .before .args .d) h _ _ _ _ (c .before .before .before .span-of .ensures) m (c .before .before .is-blocked .ensures) (c .before .blocked-in .ensures))
+returns-2 : tie.Need-returns-2
+returns-2 c = λ os b h m. c .place-automatic .ensures os (c .before .before .before .before .before .before .before .args .ms) (sym (c .before .before .before .before .before .is-fixed .ensures) ∙ c .before .before .before .before .if1 .left) (h .alignment) (allow-is os (c .before .before .before .before .before .before .before .args .ms) (c .before .before .before .before .before .before .before .args .t) b (c .before .before .before .before .before .before .before .args .d) h) (blocked-is os (c .before .before .before .before .before .before .before .args .ms) (c .before .before .before .before .before .before .before .args .t) b (c .before .before .before .before .before .before .before .args .d) h _ (c .before .blocked-in .ensures))
 
 pub place-in-spec : {M : Type 1} → statement M
 place-in-spec =
     tie.close
-    (tie.spec span-of-requires is-blocked-requires blocked-in-requires place-for-requires returns)
+    (tie.spec
+    is-fixed-requires
+    span-of-requires
+    is-blocked-requires
+    place-fixed-requires
+    returns
+    blocked-in-requires
+    place-automatic-requires
+    returns-2)

@@ -1,30 +1,30 @@
--- What is left from place i on answers for the whole.
+-- The bits before place i and the places from i on answer for the whole.
 use native.Mathlib.Omega.{arith}
 use borrow.Author.Needs.{needs}
 use Prim.Native.Nat.{_-_}
 use mathlib.Core.Path.{_≡_, refl}
+use mathlib.Core.Bool.{_&&_}
+use lib.Dec.{eqb}
 use lib.ListN.{length, drop}
-use Rattle.wire.specs.Fields.{zeros, zeros-failed, zeros-on, zeros-end}
+use Rattle.wire.specs.Fields.{zeros}
+use Rattle.objects.proofs.Zeroing.{bits-on, bits-end}
 use Rattle.objects.proofs.zero_from.Statement.{statement}
 use Rattle.objects.proofs.zero_from.Tie as tie
 
 abbrev Inv-loop : tie.InvT-loop
-Inv-loop xs from i₀ i = zeros (drop i xs) ≡ zeros (drop from xs)
+Inv-loop xs from bits₀ i₀ bits i = (eqb bits 0 && zeros (drop i xs)) ≡ zeros (drop from xs)
 
 abbrev μ-loop : tie.MeasureT-loop
-μ-loop xs from i₀ i = length xs - i
+μ-loop xs from bits₀ i₀ bits i = length xs - i
 
 loop-holds : tie.Need-loop-holds Inv-loop μ-loop
 loop-holds c = refl
 
-mul-if1 : tie.Need-mul-if1 Inv-loop μ-loop
-mul-if1 c = search needs
+mul-bits : tie.Need-mul-bits Inv-loop μ-loop
+mul-bits c = search needs
 
-shared-slice-read-if1 : tie.Need-shared-slice-read-if1 Inv-loop μ-loop
-shared-slice-read-if1 c = search needs
-
-returns : tie.Need-returns Inv-loop μ-loop
-returns c = let l = c .before .before .before .loop in zeros-failed _ (l .i) (l .inv) (omega arith) (c .if1 .taken)
+shared-slice-read-bits : tie.Need-shared-slice-read-bits Inv-loop μ-loop
+shared-slice-read-bits c = search needs
 
 add-i : tie.Need-add-i Inv-loop μ-loop
 add-i c = search needs
@@ -33,10 +33,10 @@ loop-less : tie.Need-loop-less Inv-loop μ-loop
 loop-less c = search needs
 
 loop-again : tie.Need-loop-again Inv-loop μ-loop
-loop-again c = let l = c .before .before .before .loop in zeros-on _ (l .i) (l .inv) (omega arith) (c .if1 .left)
+loop-again c = let l = c .before .before .loop in bits-on _ (l .i) (l .bits) (l .inv) (omega arith)
 
-returns-2 : tie.Need-returns-2 Inv-loop μ-loop
-returns-2 c = let l = c .before .loop in zeros-end _ (l .i) (l .inv) (omega arith)
+returns : tie.Need-returns Inv-loop μ-loop
+returns c = let l = c .before .loop in bits-end _ (l .i) (l .bits) (l .inv) (omega arith)
 
 pub zero-from-spec : {M : Type 1} → statement M
 zero-from-spec =
@@ -45,10 +45,9 @@ zero-from-spec =
     Inv-loop
     μ-loop
     loop-holds
-    mul-if1
-    shared-slice-read-if1
-    returns
+    mul-bits
+    shared-slice-read-bits
     add-i
     loop-less
     loop-again
-    returns-2)
+    returns)

@@ -1,0 +1,28 @@
+#!/usr/bin/env bash
+# The archive seen from outside: builds it, and the Rust crate in tests/outside that links it, and runs one of the crate's programs.
+#
+#   tests/outside.sh differential                      random calls against the model: the fixed set of sequences, every check reached
+#   tests/outside.sh differential --calls 10000000     a long run, with a line of progress; --seed S makes other sequences
+#   tests/outside.sh benchmark                         what a call costs, as markdown; --quick for a first look, --limit 2.0 to fail above that ratio
+#   tests/outside.sh test                              the crate's own tests
+set -euo pipefail
+cd "$(dirname "$0")/.."
+export PATH="/opt/rattle/bin:$PATH"
+[ $# -ge 1 ] || { sed -n '2,8s/^# \{0,1\}//p' "$0"; exit 2; }
+program=$1
+shift
+
+# The archive is built anew where a source is newer than it is.
+archive=target/staticlib/libboundary.a
+if [ ! -f "$archive" ] || [ -n "$(find crates crates.txt -newer "$archive" \( -name '*.rt' -o -name crates.txt \) -print -quit)" ]; then
+  mkdir -p target
+  rt staticlib boundary >target/archive.say 2>&1 || { tail -n 20 target/archive.say; exit 1; }
+fi
+
+# Loops at a multiple of 64 bytes: where a short loop lies otherwise decides up to half of its time, and the plain program that is measured has one.
+export CARGO_TARGET_DIR="$PWD/target/outside" IOMMUFD_LIB="$PWD/target/staticlib" RUSTFLAGS="-D warnings -C llvm-args=-align-loops=64"
+if [ "$program" = test ]; then
+  exec cargo test --quiet --offline --manifest-path tests/outside/Cargo.toml "$@"
+fi
+cargo build --quiet --release --offline --manifest-path tests/outside/Cargo.toml
+exec "target/outside/release/$program" "$@"

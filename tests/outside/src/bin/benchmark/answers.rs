@@ -1,0 +1,55 @@
+//! Whether the systems give the same answers, so that no wrong program is measured.
+use crate::Subject;
+use iommufd::raw::Number;
+use outside::calls::{Call, Lent};
+use outside::workloads::Job;
+
+/// After each call of a job: the result, the bytes and the table.
+type Trace = Vec<(Number, Call, Lent)>;
+
+fn trace(subject: &Subject, job: &Job) -> Trace {
+    let mut lent = job.lent.clone();
+    let step = |mut call: Call| {
+        let told = (subject.system)(&mut lent, &mut call);
+        (told, call, lent.clone())
+    };
+    job.calls.iter().cloned().map(step).collect()
+}
+
+/// Whether the calls can be repeated: they leave the table as it was, and with the bytes that they left they do the same again.
+fn repeats(subject: &Subject, job: &Job, first: &Trace) -> bool {
+    let calls = first.iter().map(|(_, call, _)| call.clone()).collect();
+    let kept = first.last().is_none_or(|(_, _, lent)| *lent == job.lent);
+    kept && trace(subject, &Job { lent: job.lent.clone(), calls }) == *first
+}
+
+pub fn alike(subjects: &[Subject], job: &Job) -> Result<(), String> {
+    let first = trace(&subjects[0], job);
+    for subject in subjects {
+        if trace(subject, job) != first {
+            return Err(format!("({}) and ({}) answer differently", subjects[0].letter, subject.letter));
+        }
+        if !repeats(subject, job, &first) {
+            return Err(format!("({}) cannot repeat the calls", subject.letter));
+        }
+    }
+    Ok(())
+}
+
+#[cfg(test)]
+mod tests {
+    use super::*;
+    use crate::{CHECKED, TRUSTING};
+    use outside::workloads::{Shape, Workload};
+
+    fn nods(_: &mut Lent, _: &mut Call) -> Number {
+        Number::default()
+    }
+
+    #[test]
+    fn a_wrong_system_is_found() {
+        let job = Job::new(Workload::Fixed, Shape::Worn, 16);
+        assert!(alike(&[CHECKED, TRUSTING], &job).is_ok());
+        assert!(alike(&[CHECKED, Subject { letter: 'x', name: "nods", system: nods }], &job).is_err());
+    }
+}

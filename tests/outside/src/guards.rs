@@ -1,0 +1,131 @@
+//! The archive on memory with guard bytes around every part that is lent, the command and the area at any address, odd ones too.
+use crate::boundary;
+use crate::calls::{Call, Lent};
+use crate::dice::Dice;
+use iommufd::raw::{Head, Mapping, Number};
+
+const FENCE: usize = 24;
+const FENCE_RECORDS: usize = 2;
+
+/// Bytes in the middle of others.
+struct FencedBytes {
+    memory: Vec<u8>,
+    from: usize,
+    len: usize,
+    pattern: [u8; 8],
+}
+
+impl FencedBytes {
+    fn around(part: &[u8], dice: &mut Dice) -> FencedBytes {
+        let (from, pattern) = (FENCE + dice.below(8), dice.roll().to_le_bytes());
+        let mut memory: Vec<u8> = pattern.iter().copied().cycle().take(from + part.len() + FENCE).collect();
+        memory[from..from + part.len()].copy_from_slice(part);
+        FencedBytes { memory, from, len: part.len(), pattern }
+    }
+
+    fn lent(&mut self) -> &mut [u8] {
+        &mut self.memory[self.from..self.from + self.len]
+    }
+
+    fn intact(&self) -> bool {
+        let part = self.from..self.from + self.len;
+        self.memory.iter().enumerate().all(|(k, byte)| part.contains(&k) || *byte == self.pattern[k % 8])
+    }
+}
+
+/// A head in the middle of other words.
+#[repr(C)]
+struct FencedHead {
+    before: [u64; FENCE],
+    head: Head,
+    after: [u64; FENCE],
+}
+
+impl FencedHead {
+    fn around(head: &Head, pattern: u64) -> FencedHead {
+        FencedHead { before: [pattern; FENCE], head: head.clone(), after: [pattern; FENCE] }
+    }
+
+    fn intact(&self, pattern: u64) -> bool {
+        self.before == [pattern; FENCE] && self.after == [pattern; FENCE]
+    }
+}
+
+fn fence_record(pattern: u64) -> Mapping {
+    let half = pattern as u32;
+    Mapping { space: half, rights: half, founder: half, backing: half, address: pattern, length: pattern, memory: pattern }
+}
+
+fn fenced_records(records: &[Mapping], fence: Mapping) -> Vec<Mapping> {
+    let fence = [fence; FENCE_RECORDS];
+    [&fence, records, &fence].concat()
+}
+
+fn bytes_of(call: &Call) -> (&[u8], &[u8]) {
+    match call {
+        Call::Command { bytes, area, .. } | Call::Preview { bytes, area, .. } => (bytes, area),
+        _ => (&[], &[]),
+    }
+}
+
+fn bytes_back(call: &mut Call, new_bytes: &[u8], new_area: &[u8]) {
+    if let Call::Command { bytes, area, .. } | Call::Preview { bytes, area, .. } = call {
+        bytes.copy_from_slice(new_bytes);
+        area.copy_from_slice(new_area);
+    }
+}
+
+/// The call through libboundary.a, or which guard it wrote to.
+pub fn run(dice: &mut Dice, lent: &mut Lent, call: &mut Call) -> Result<Number, &'static str> {
+    let pattern = dice.roll();
+    let (bytes, area) = bytes_of(call);
+    let (mut bytes, mut area) = (FencedBytes::around(bytes, dice), FencedBytes::around(area, dice));
+    let mut head = FencedHead::around(&lent.head, pattern);
+    let fence = fence_record(pattern);
+    let mut memory = fenced_records(&lent.mappings, fence);
+    let (before, rest) = memory.split_at_mut(FENCE_RECORDS);
+    let (records, after) = rest.split_at_mut(lent.mappings.len());
+
+    let number = boundary::lend(&mut head.head, records, call, bytes.lent(), area.lent());
+
+    *lent.head = head.head.clone();
+    lent.mappings.copy_from_slice(records);
+    bytes_back(call, bytes.lent(), area.lent());
+    let intact = [
+        (head.intact(pattern), "memory beside the head was written"),
+        (before.iter().chain(after.iter()).all(|record| *record == fence), "memory beside the mapping records was written"),
+        (bytes.intact(), "memory beside the command was written"),
+        (area.intact(), "memory beside the range area was written"),
+    ];
+    intact.iter().find(|(holds, _)| !holds).map_or(Ok(number), |(_, broken)| Err(broken))
+}
+
+#[cfg(test)]
+mod tests {
+    use super::*;
+
+    #[test]
+    fn a_byte_on_either_side_is_noticed() {
+        let mut dice = Dice::new(3);
+        for len in [0, 1, 40] {
+            let part = vec![9; len];
+            let mut fenced = FencedBytes::around(&part, &mut dice);
+            fenced.lent().fill(1);
+            assert!(fenced.intact());
+            for at in [fenced.from - 1, fenced.from + len] {
+                fenced.memory[at] ^= 1;
+                assert!(!fenced.intact());
+                fenced.memory[at] ^= 1;
+            }
+        }
+    }
+
+    #[test]
+    fn a_word_beside_the_head_is_noticed() {
+        let mut fenced = FencedHead::around(&Head::default(), 5);
+        fenced.head.limit = 1;
+        assert!(fenced.intact(5));
+        fenced.after[0] = 0;
+        assert!(!fenced.intact(5));
+    }
+}

@@ -1,0 +1,19 @@
+//! The built archive seen from outside: a model of document 01, runs of calls compared with it after every call, and a plain program to measure the archive against.
+pub mod aim;
+pub mod boundary;
+pub mod calls;
+pub mod compare;
+pub mod coverage;
+pub mod dice;
+pub mod generate;
+pub mod guards;
+pub mod model;
+pub mod places;
+pub mod plain;
+pub mod runs;
+pub mod show;
+pub mod shrink;
+pub mod sight;
+pub mod steps;
+pub mod wire;
+pub mod workloads;

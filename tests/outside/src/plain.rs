@@ -1,0 +1,181 @@
+//! What a systems programmer would write instead of the archive: plain safe Rust on the same layout, in place and without allocation. It gives document 01's answers for any
+//! table and any bytes where it checks the table before every call (`CHECKED`, by the archive's own algorithm), and for good tables where it trusts the table.
+//!
+//! A command is decided on the table as it stands and only then applied, so that a refusal writes nothing and a preview is the decision alone.
+mod check;
+mod commands;
+mod host;
+mod place;
+mod range;
+mod table;
+mod wire;
+
+#[cfg(test)]
+mod tests;
+
+use crate::calls::{Call, Lent};
+use iommufd::raw::{Head, Mapping, Number, Object, Reserved};
+use table::Table;
+
+/// The records of a mapping table.
+const RECORDS: usize = 128;
+/// The highest charge limit, in pages.
+const MAX_LIMIT: u64 = 1 << 36;
+/// The longest mapping, in bytes.
+const MAX_LENGTH: u64 = 1 << 40;
+/// The largest page that a device may need at least.
+const MAX_PAGE: u64 = 4096;
+
+const SPACE: u32 = 1;
+const LOOSE: u32 = 2;
+const ATTACHED: u32 = 3;
+
+/// Rights of a mapping.
+const WRITE: u32 = 1;
+const READ: u32 = 2;
+
+/// A refusal: the number of document 01.
+#[derive(Clone, Copy, Debug, PartialEq, Eq)]
+struct Errno(i32);
+
+const EPERM: Errno = Errno(1);
+const ENOENT: Errno = Errno(2);
+const E2BIG: Errno = Errno(7);
+const ENOMEM: Errno = Errno(12);
+const EFAULT: Errno = Errno(14);
+const EBUSY: Errno = Errno(16);
+const EEXIST: Errno = Errno(17);
+const EINVAL: Errno = Errno(22);
+const ENOTTY: Errno = Errno(25);
+const ENOSPC: Errno = Errno(28);
+const EOVERFLOW: Errno = Errno(75);
+const EMSGSIZE: Errno = Errno(90);
+const EOPNOTSUPP: Errno = Errno(95);
+const EADDRINUSE: Errno = Errno(98);
+const EUCLEAN: Errno = Errno(117);
+
+type Answer<T> = Result<T, Errno>;
+
+/// `Err` of a refusal where the condition holds: the checks of a call, one line each.
+fn refuse(fires: bool, errno: Errno) -> Answer<()> {
+    if fires {
+        Err(errno)
+    } else {
+        Ok(())
+    }
+}
+
+/// The first check of every call.
+fn table<'a, const CHECKED: bool>(head: &'a Head, mappings: &'a [Mapping]) -> Answer<Table<'a>> {
+    refuse(CHECKED && !check::is_good(head, mappings), EUCLEAN)?;
+    Ok(Table { head, mappings })
+}
+
+fn result(answer: Answer<i32>) -> i32 {
+    answer.unwrap_or_else(|Errno(n)| -n)
+}
+
+fn number(answer: Answer<u64>) -> Number {
+    match answer {
+        Ok(value) => Number { result: 0, value },
+        Err(Errno(n)) => Number { result: -n, value: 0 },
+    }
+}
+
+// ---- the entries, each as its C sister in include/iommufd.h
+
+#[inline(never)]
+pub fn fresh(head: &mut Head, mappings: &mut [Mapping], limit: u64) -> i32 {
+    if mappings.len() != RECORDS {
+        return -EUCLEAN.0;
+    }
+    if limit > MAX_LIMIT {
+        return -EINVAL.0;
+    }
+    head.limit = limit;
+    head.objects.fill(Object::default());
+    mappings.fill(Mapping::default());
+    0
+}
+
+#[inline(never)]
+pub fn call<const CHECKED: bool>(head: &mut Head, mappings: &mut [Mapping], request: u32, command: &mut [u8], area: &mut [u8]) -> i32 {
+    let decided = table::<CHECKED>(head, mappings).and_then(|t| commands::decide(t, request, command, area));
+    result(decided.map(|change| {
+        commands::apply(head, mappings, change, area);
+        0
+    }))
+}
+
+#[inline(never)]
+pub fn preview<const CHECKED: bool>(head: &Head, mappings: &[Mapping], request: u32, command: &mut [u8], area: &mut [u8]) -> i32 {
+    let decided = table::<CHECKED>(head, mappings).and_then(|t| commands::decide(t, request, command, area));
+    result(decided.map(|_| 0))
+}
+
+#[inline(never)]
+pub fn bind<const CHECKED: bool>(head: &mut Head, mappings: &mut [Mapping], bitmap: u64, reserved: &Reserved) -> i32 {
+    let place = table::<CHECKED>(head, mappings).and_then(|t| host::bind(t, bitmap, reserved));
+    result(place.map(|i| {
+        head.objects[i] = host::device(bitmap, reserved);
+        i as i32 + 1
+    }))
+}
+
+#[inline(never)]
+pub fn attach<const CHECKED: bool>(head: &mut Head, mappings: &mut [Mapping], device: u32, space: u32) -> i32 {
+    let place = table::<CHECKED>(head, mappings).and_then(|t| host::attach(t, device, space));
+    result(place.map(|i| {
+        head.objects[i].kind = ATTACHED;
+        head.objects[i].home = space;
+        0
+    }))
+}
+
+#[inline(never)]
+pub fn detach<const CHECKED: bool>(head: &mut Head, mappings: &mut [Mapping], device: u32) -> i32 {
+    let place = table::<CHECKED>(head, mappings).and_then(|t| host::detach(t, device));
+    result(place.map(|i| {
+        head.objects[i].kind = LOOSE;
+        head.objects[i].home = 0;
+        0
+    }))
+}
+
+#[inline(never)]
+pub fn reach<const CHECKED: bool>(head: &Head, mappings: &[Mapping], device: u32, address: u64, length: u64, write: u32) -> Number {
+    number(table::<CHECKED>(head, mappings).and_then(|t| host::reach(t, device, address, length, write != 0)))
+}
+
+#[inline(never)]
+pub fn charge<const CHECKED: bool>(head: &Head, mappings: &[Mapping]) -> Number {
+    number(table::<CHECKED>(head, mappings).map(|t| t.backings().charge))
+}
+
+// ---- as systems
+
+/// Every call on a table that is checked first.
+pub fn checked(lent: &mut Lent, call: &mut Call) -> Number {
+    run::<true>(lent, call)
+}
+
+/// Every call on a table that is trusted. On a bad table it may answer anything, or panic.
+pub fn trusting(lent: &mut Lent, call: &mut Call) -> Number {
+    run::<false>(lent, call)
+}
+
+fn run<const CHECKED: bool>(lent: &mut Lent, asked: &mut Call) -> Number {
+    let head = &mut *lent.head;
+    let mappings = &mut lent.mappings[..];
+    let told = |result| Number { result, value: 0 };
+    match asked {
+        Call::Fresh { limit } => told(fresh(head, mappings, *limit)),
+        Call::Command { request, bytes, area } => told(call::<CHECKED>(head, mappings, *request, bytes, area)),
+        Call::Preview { request, bytes, area } => told(preview::<CHECKED>(head, mappings, *request, bytes, area)),
+        Call::Bind { bitmap, reserved } => told(bind::<CHECKED>(head, mappings, *bitmap, reserved)),
+        Call::Attach { device, space } => told(attach::<CHECKED>(head, mappings, *device, *space)),
+        Call::Detach { device } => told(detach::<CHECKED>(head, mappings, *device)),
+        Call::Reach { device, address, length, write } => reach::<CHECKED>(head, mappings, *device, *address, *length, *write),
+        Call::Charge => charge::<CHECKED>(head, mappings),
+    }
+}
