@@ -6,7 +6,6 @@ use mathlib.Core.List.{List, [], _∷_, _++_}
 use native.Mathlib.Omega.{arith}
 use lib.Dec.{eqb}
 use Rattle.lists.specs.Checks.{Check, when, first, Refusals}
-use Rattle.ranges.specs.declared.Range.{Range}
 use Rattle.ranges.specs.Ranges.{passes}
 use Rattle.rangelists.specs.declared.Found.{Found}
 use Rattle.rangelists.specs.Listed.{found, isFound}
@@ -122,7 +121,7 @@ module _ (os : List Object) (ms : List Mapping) (t : Target) (source from : ℕ)
       unfolding copyEdit
       by-place r h k = settle-refused (p .errno) (first all 0) r _ (after (p .errno) (stage-refused places records (p .errno) (at .errno) h)) h k
 
-      module _ (zp : p .errno ≡ 0) (q : Range) (v : Survey) (ev : v ≡ surveyOf (t .space) q ms) (full : ℕ) (ef : full ≡ first (recordChecks (v .free)) 0) where
+      module _ (zp : p .errno ≡ 0) (v : Survey) (ev : v ≡ surveyOf ms) (full : ℕ) (ef : full ≡ first (recordChecks (v .free)) 0) where
         records-are : full ≡ first all 0
         unfolding surveyOf
         records-are =

@@ -127,12 +127,11 @@ pub fn decide_copy(d: Digest, ms: [Mapping; 128], t: Target, source: u32, from: 
     if denied != 0 {
         return edits::refusal(denied);
     }
-    let r = ranges::span_of(t.address, t.length);
-    let v = surveys::survey_of(ms, t.space, r);
-    let p = mappings::place_in(d, ms, t, v.touched);
+    let p = mappings::place_in(d, ms, t);
     if p.errno != 0 {
         return edits::refusal(p.errno);
     }
+    let v = surveys::survey_of(ms);
     let free = v.free;
     let full = record_errno(free);
     if full != 0 {

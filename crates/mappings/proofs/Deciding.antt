@@ -4,7 +4,6 @@ use mathlib.Core.Path.{_≡_, _∙_}
 use mathlib.Core.List.{List, _++_}
 use native.Mathlib.Omega.{arith}
 use Rattle.lists.specs.Checks.{Check, first, Refusals}
-use Rattle.ranges.specs.declared.Range.{Range}
 use Rattle.ranges.specs.Pages.{pagesTouched}
 use Rattle.rangelists.specs.Listed.{found}
 use Rattle.command.specs.Flags.{bit}
@@ -56,7 +55,7 @@ module _ (limit : ℕ) (os : List Object) (ms : List Mapping) (t : Target) (z me
     by-place r h k =
         settle-refused (p .errno) (first all 0) r _ (stage-passed numbers (places ++ room) w (p .errno) numbers-refuse ew zw (stage-refused places room (p .errno) (at .errno) h)) h k
 
-    module _ (zp : p .errno ≡ 0) (q : Range) (v : Survey) (ev : v ≡ surveyOf (t .space) q ms) (pages full : ℕ) (ep : pages ≡ pagesTouched memory (t .length))
+    module _ (zp : p .errno ≡ 0) (v : Survey) (ev : v ≡ surveyOf ms) (pages full : ℕ) (ep : pages ≡ pagesTouched memory (t .length))
         (ef : full ≡ first (roomChecks (v .free) limit (v .charge) pages) 0) where
       room-is : full ≡ first all 0
       unfolding mapChecks surveyOf

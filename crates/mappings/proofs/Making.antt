@@ -58,9 +58,9 @@ unfolding freeBacking
 backing-upto ms none e = omega arith
 backing-upto ms (some n) e = omega (arith, lowest-some (λ b. not (any (backs b) ms)) 128 1 n e .upto)
 
-pub backing-fits : (ms : List Mapping) (s : ℕ) (r : Range) (v : Survey) → v ≡ surveyOf s r ms → numberIn (v .backing) ≤ 128
+pub backing-fits : (ms : List Mapping) (v : Survey) → v ≡ surveyOf ms → numberIn (v .backing) ≤ 128
 unfolding surveyOf
-backing-fits ms s r v e = rw e (backing-upto ms (freeBacking ms) refl)
+backing-fits ms v e = rw e (backing-upto ms (freeBacking ms) refl)
 
 -- ---- a new mapping in the lowest free record
 

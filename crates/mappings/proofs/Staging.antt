@@ -4,13 +4,13 @@ use mathlib.Core.Path.{_≡_, sym, _∙_}
 use mathlib.Core.Bool.{Bool, true, false}
 use mathlib.Core.List.{List, _++_}
 use native.Mathlib.Omega.{arith}
+use Rattle.lists.specs.Search.{any}
 use Rattle.lists.specs.Checks.{Check, first, first-append, first-stays, first-goes, Refusals}
 use Rattle.ranges.specs.declared.Range.{Range}
 use Rattle.ranges.specs.Ranges.{span}
 use Rattle.table.specs.declared.Object.{Object}
 use Rattle.table.specs.declared.Mapping.{Mapping}
-use Rattle.surveys.specs.declared.Survey.{Survey}
-use Rattle.surveys.specs.Surveyed.{surveyOf}
+use Rattle.table.specs.Records.{touches}
 use Rattle.places.specs.Places.{taken, fixedChecks, automaticChecks, placeChecks}
 
 pub stage-refused : (cs ds : List (Check ℕ)) (n : ℕ) → n ≡ first cs 0 → (n ≡ 0 → ⊥) → n ≡ first (cs ++ ds) 0
@@ -25,7 +25,7 @@ unfolding placeChecks fixedChecks automaticChecks
 place-refuse os ms s true n x = (λ y. omega (arith, y), (λ y. omega (arith, y), (λ y. omega (arith, y), tt)))
 place-refuse os ms s false n x = (λ y. omega (arith, y), (λ y. omega (arith, y), tt))
 
--- what the survey of the range asked tells of it
-pub touched-is : (ms : List Mapping) (s n x : ℕ) (r : Range) (v : Survey) → r ≡ span x n → v ≡ surveyOf s r ms → v .touched ≡ taken ms s n x
-unfolding surveyOf taken
-touched-is ms s n x r v er ev = rw (ev, er)
+-- whether the range asked is taken
+pub touched-is : (ms : List Mapping) (s n x : ℕ) (r : Range) (b : Bool) → r ≡ span x n → b ≡ any (touches s r) ms → b ≡ taken ms s n x
+unfolding taken
+touched-is ms s n x r b er eb = eb ∙ rw er

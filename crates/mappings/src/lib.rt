@@ -1,4 +1,4 @@
-// What MAP decides over a good table: the numbers of the command first, then one pass over the records, then the place. COPY shares the parts of a new mapping.
+// What MAP decides over a good table: the numbers of the command first, then the place, then one pass over the records for its room. COPY shares the parts of a new mapping.
 ghost use mathlib.Core.Bool.{true};
 ghost use mathlib.Core.List.{List};
 ghost use mathlib.Core.Path.{_≡_};
@@ -11,7 +11,6 @@ ghost use Rattle.table.specs.declared.Object.{Object};
 ghost use Rattle.table.specs.Records.{spaceAt};
 ghost use Rattle.table.specs.Checked.{recordOk};
 ghost use Rattle.digests.specs.Digest.{Seen};
-ghost use Rattle.places.specs.Places.{taken};
 ghost use Rattle.places.specs.Placing.{Placed};
 ghost use Rattle.mappings.specs.Made.{rightsOf, numberIn, mapped};
 ghost use Rattle.mappings.specs.Map.{noRight, wrongLength, fixedPasses, mapNumberChecks, roomChecks, foundOf, mapEdit};
@@ -80,14 +79,15 @@ pub fn fixed_passes(flags: u32, x: u64, n: u64) -> bool
     command::both(command::is_fixed(flags), ranges::passes_max(x, n))
 }
 
-// The place of a target, by the digest of the objects for its space. `touched` tells whether the range asked touches a mapping. What blocks is gathered for an automatic
-// address alone.
-pub fn place_in(d: Digest, ms: [Mapping; 128], t: Target, touched: bool) -> Placing
-    ensures { λ p. ⌜ ((os : List Object) (b : ℕ) → Seen os (t .space) b d → touched ≡ taken ms (t .space) (t .length) (t .address) → Placed os ms t p) ⌝ }
+// The place of a target, by the digest of the objects for its space. What the range asked touches is asked for a fixed address alone, what blocks is gathered for an automatic one.
+pub fn place_in(d: Digest, ms: [Mapping; 128], t: Target) -> Placing
+    ensures { λ p. ⌜ ((os : List Object) (b : ℕ) → Seen os (t .space) b d → Placed os ms t p) ⌝ }
 {
     let blocks = d.blocks;
     if command::is_fixed(t.flags) {
-        let reserved = blocks::is_blocked(blocks, t.space, ranges::span_of(t.address, t.length));
+        let r = ranges::span_of(t.address, t.length);
+        let reserved = blocks::is_blocked(blocks, t.space, r);
+        let touched = surveys::is_taken(ms, t.space, r);
         return places::place_fixed(d.alignment, t, reserved, touched);
     }
     let o = d.first;
@@ -182,12 +182,11 @@ pub fn decide_map(
     if wrong != 0 {
         return edits::refusal(wrong);
     }
-    let r = ranges::span_of(t.address, t.length);
-    let v = surveys::survey_of(ms, t.space, r);
-    let p = place_in(d, ms, t, v.touched);
+    let p = place_in(d, ms, t);
     if p.errno != 0 {
         return edits::refusal(p.errno);
     }
+    let v = surveys::survey_of(ms);
     let free = v.free;
     let full = room_errno(
         free,

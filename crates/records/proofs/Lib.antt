@@ -3,3 +3,4 @@ pub mod Touching
 pub mod Comparing
 pub mod Marking
 pub mod Ordering
+pub mod Passing

@@ -10,7 +10,7 @@ use lib.ListN.{length, getD, take, set, replicate, length-take, length-set, leng
 use lib.Seq.{getD-take, getD-set-same, getD-set-other, take-all}
 use borrow.Author.Tests.{eqb-true, eqb-false, ne-eqb}
 use Rattle.lists.specs.Tests.{by-test, contrary, or-neither}
-use Rattle.lists.specs.Search.{any, all, all-at, seek, seek-none, seek-any-false, seek-some-lt, seek-cons-true}
+use Rattle.lists.specs.Search.{any, all, all-nil, seek, seek-none, seek-any-false, seek-some-lt, seek-cons-true}
 use Rattle.lists.specs.Pairs.{clashes, clashes-nil}
 use Rattle.table.specs.declared.Mapping.{Mapping}
 use Rattle.table.specs.Records.{zeroMapping}
@@ -18,7 +18,7 @@ use Rattle.table.specs.Charge.{backs, charge}
 use Rattle.table.specs.Charged.{backs-of}
 use Rattle.table.specs.Good.{differ, backingsAgree}
 use Rattle.records.specs.Alone.{numbered, numbered-most}
-use Rattle.records.specs.Ends.{take-turn, all-take, seek-append-some, seek-append-none, seek-append-other, clashes-append, clashes-at}
+use Rattle.records.specs.Ends.{take-turn, all-turn, seek-append-some, seek-append-none, seek-append-other, clashes-append, clashes-at}
 use Rattle.records.specs.Charging.{differ-self, agree-first, agree-none, charge-nil, charge-append, chargedOf, leaderPlace, markAfter, addedBy}
 use Rattle.records.specs.declared.Charged.the-variants.{Disagree, Sum}
 
@@ -36,11 +36,12 @@ mark-own p xs a e = go (seek p 0 xs) refl
     go none f = rw (f, seek-append-none p 0 xs (a ∷ []) (seek-none p 0 xs f), seek-cons-true p (0 + length xs) a [] e) (omega arith)
     go (some k) f = rw (f, seek-append-some p 0 xs (a ∷ []) k f, ne-eqb (k + 1) 0 (λ z. omega (arith, z)))
 
--- after i records: the marks of the backings, the pages of those that have one, and that no two records differ
+-- after i records: their backings have numbers, the marks of the backings, the pages of those that have one, and that no two records differ
 pub record Seen (ms : List Mapping) (i sum : ℕ) (marks : List ℕ) : Type 0 where
   pub many : length ms ≡ 128
   pub upto : i ≤ 128
   pub room : length marks ≡ 129
+  pub numbers : all numbered (take i ms) ≡ true
   pub marked : (b : ℕ) → b ≤ 128 → getD marks b 0 ≡ markOf (seek (backs b) 0 (take i ms))
   pub agree : clashes differ (take i ms) ≡ false
   pub total : sum ≡ charge (take i ms)
@@ -52,17 +53,28 @@ seen-start ms h = record {
   many = h;
   upto = omega arith;
   room = length-replicate {A = ℕ} 129 0;
+  numbers = all-nil numbered;
   marked = λ b l. getD-replicate {A = ℕ} 129 b 0 0 (omega arith);
   agree = clashes-nil differ;
   total = sym charge-nil;
   small = omega arith;
 }
 
-pub seen-end : (ms : List Mapping) (i sum : ℕ) (marks : List ℕ) → Seen ms i sum marks → 128 ≤ i → Sum sum ≡ chargedOf ms
-unfolding chargedOf backingsAgree
-seen-end ms i sum marks s h =
-    let e : take i ms ≡ ms = take-all i ms (omega (arith, s .many)) in
-    rw (sym (ap (clashes differ) e) ∙ s .agree) (ap Sum (s .total ∙ ap charge e))
+-- after all of them
+module _ (ms : List Mapping) (i sum : ℕ) (marks : List ℕ) (s : Seen ms i sum marks) (h : 128 ≤ i) where
+  whole : take i ms ≡ ms
+  whole = take-all i ms (omega (arith, s .many))
+
+  pub seen-agree : backingsAgree ms ≡ true
+  unfolding backingsAgree
+  seen-agree = rw (sym (ap (clashes differ) whole) ∙ s .agree)
+
+  pub seen-charge : sum ≡ charge ms
+  seen-charge = s .total ∙ ap charge whole
+
+  pub seen-end : Sum sum ≡ chargedOf ms
+  unfolding chargedOf
+  seen-end = rw seen-agree (ap Sum seen-charge)
 
 -- the record at place i, the mark of its backing, and the first record that has it
 abbrev pub here : List Mapping → ℕ → Mapping
@@ -75,12 +87,9 @@ abbrev pub leader : List Mapping → List ℕ → ℕ → Mapping
 leader ms marks i = getD ms (leaderPlace (markHere ms marks i) i) zeroMapping
 
 -- one turn
-module _ (ms : List Mapping) (i sum : ℕ) (marks : List ℕ) (num : all numbered ms ≡ true) (s : Seen ms i sum marks) (h : i < 128) where
-  numbered-at : numbered (here ms i) ≡ true
-  numbered-at = all-at numbered ms zeroMapping num i (omega (arith, s .many))
-
+module _ (ms : List Mapping) (i sum : ℕ) (marks : List ℕ) (s : Seen ms i sum marks) (h : i < 128) (num : numbered (here ms i) ≡ true) where
   pub backing-most : here ms i .backing ≤ 128
-  backing-most = numbered-most (here ms i) numbered-at
+  backing-most = numbered-most (here ms i) num
 
   seen-mark : markHere ms marks i ≡ markOf (seek (backs (here ms i .backing)) 0 (take i ms))
   seen-mark = s .marked (here ms i .backing) backing-most
@@ -101,12 +110,16 @@ module _ (ms : List Mapping) (i sum : ℕ) (marks : List ℕ) (num : all numbere
   asked : (k : ℕ) (r t : Bool) → k ≡ leaderPlace (markHere ms marks i) i → r ≡ differ (getD ms k zeroMapping) (here ms i) → r ≡ t → differ (leader ms marks i) (here ms i) ≡ t
   asked k r t e f g = ap (λ (n : ℕ). differ (getD ms n zeroMapping) (here ms i)) (sym e) ∙ sym f ∙ g
 
-  pub seen-differ : (k : ℕ) (r : Bool) → k ≡ leaderPlace (markHere ms marks i) i → r ≡ differ (getD ms k zeroMapping) (here ms i) → r ≡ true → Disagree ≡ chargedOf ms
-  unfolding chargedOf backingsAgree
-  seen-differ k r e f g =
+  pub seen-disagree : (k : ℕ) (r : Bool) → k ≡ leaderPlace (markHere ms marks i) i → r ≡ differ (getD ms k zeroMapping) (here ms i) → r ≡ true → backingsAgree ms ≡ false
+  unfolding backingsAgree
+  seen-disagree k r e f g =
       by-test (eqb (leaderPlace (markHere ms marks i) i) i)
       (λ t. contrary (differ (here ms i) (here ms i)) (sym (ap (λ (n : ℕ). differ (getD ms n zeroMapping) (here ms i)) (eqb-true (leaderPlace (markHere ms marks i) i) i t)) ∙ asked k r true e f g) (differ-self (here ms i)))
       (λ t. rw (clashes-at differ ms zeroMapping (leaderPlace (markHere ms marks i) i) i (omega (arith, leader-most, eqb-false (leaderPlace (markHere ms marks i) i) i t)) (omega (arith, s .many)) (asked k r true e f g)))
+
+  pub seen-differ : (k : ℕ) (r : Bool) → k ≡ leaderPlace (markHere ms marks i) i → r ≡ differ (getD ms k zeroMapping) (here ms i) → r ≡ true → Disagree ≡ chargedOf ms
+  unfolding chargedOf
+  seen-differ k r e f g = rw (seen-disagree k r e f g)
 
   -- no mark: no record seen has the backing
   mark-none : eqb (markHere ms marks i) 0 ≡ not (any (backs (here ms i .backing)) (take i ms))
@@ -128,7 +141,7 @@ module _ (ms : List Mapping) (i sum : ℕ) (marks : List ℕ) (num : all numbere
       go (some k) e f =
           let l : k < i = omega (arith, seek-some-lt (backs (here ms i .backing)) 0 (take i ms) k e .1, length-seen) in
           let z : k + 1 - 1 ≡ k = omega arith in
-          agree-first (take i ms) (all-take numbered i ms num) (here ms i) k (s .agree) e
+          agree-first (take i ms) (s .numbers) (here ms i) k (s .agree) e
           (rw (getD-take i ms k zeroMapping l) (sym (rw (e, ne-eqb (k + 1) 0 (λ q. omega (arith, q)), z)) ∙ f))
 
   turn : take (i + 1) ms ≡ take i ms ++ here ms i ∷ []
@@ -164,8 +177,9 @@ module _ (ms : List Mapping) (i sum : ℕ) (marks : List ℕ) (num : all numbere
     many = s .many;
     upto = omega arith;
     room = length-set marks (here ms i .backing) next ∙ s .room;
+    numbers = all-turn numbered ms zeroMapping i (omega (arith, s .many)) (s .numbers) num;
     marked = marks-on next g;
     agree = rw (turn, clashes-append differ (take i ms) (here ms i)) (or-neither (clashes differ (take i ms)) (any (λ y. differ y (here ms i)) (take i ms)) (s .agree) (none-differ (asked k r false p q d)));
-    total = rw (turn, charge-append (take i ms) (here ms i) numbered-at, ← mark-none, ← e, ← s .total);
+    total = rw (turn, charge-append (take i ms) (here ms i) num, ← mark-none, ← e, ← s .total);
     small = omega (arith, s .small);
   }

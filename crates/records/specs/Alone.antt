@@ -8,7 +8,6 @@ use lib.Dec.{leb, eqb}
 use lib.ListN.{length, getD, List·getD-eq-default}
 use borrow.Author.Tests.{eqb-true, leb-true, leb-false}
 use Rattle.lists.specs.Tests.{by-test, and-left, and-right, onlyIf}
-use Rattle.lists.specs.Search.{all, all-mono}
 use Rattle.table.specs.declared.Mapping.{Mapping}
 use Rattle.table.specs.Records.{used, canWrite}
 use Rattle.table.specs.Good.{whenUsed, lengthFits, rightsFit, endsFit, alignedTo, mappingZero}
@@ -75,10 +74,6 @@ numbered-of page m e =
     by-test (used m)
     (λ u. rw u (sound-number page m (sym (alone-used page m u) ∙ e)))
     (λ u. rw u (zero-number m (sym (alone-released page m u) ∙ e)))
-
--- so have all, after the check of each record by itself
-pub all-numbered : (pages : List ℕ) (ms : List Mapping) → all (λ (m : Mapping). recordAlone (getD pages (m .space) 0) m) ms ≡ true → all numbered ms ≡ true
-all-numbered pages ms e = all-mono (λ (m : Mapping). recordAlone (getD pages (m .space) 0) m) numbered ms (λ m. numbered-of (getD pages (m .space) 0) m) e
 
 -- the page that was read for space s, or 0 for an id above 32
 unfoldable pub pageRead : ℕ → ℕ → ℕ

@@ -1,5 +1,5 @@
 -- A list with one more element at its end, as a loop that goes forward has it.
-use Prim.Native.Nat.{ℕ, zero, suc, _+_, _<_}
+use Prim.Native.Nat.{ℕ, suc, _+_, _<_}
 use mathlib.Core.Path.{_≡_, refl, sym, ap, _∙_}
 use mathlib.Core.Bool.{Bool, true, false, _||_}
 use mathlib.Core.List.{List, [], _∷_, _++_}
@@ -8,8 +8,8 @@ use native.Mathlib.Omega.{arith}
 use native.Mathlib.Numerals.{add-one}
 use lib.ListN.{length, getD, take}
 use lib.Seq.{take-suc}
-use Rattle.lists.specs.Tests.{by-test, contrary, and-left, and-right, and-both, or-not-left, or-not-right}
-use Rattle.lists.specs.Search.{any, any-append, all, find, find-cons-true, find-cons-false, seek, seek-cons-true, seek-cons-false, seek-none}
+use Rattle.lists.specs.Tests.{by-test, contrary, or-not-left, or-not-right}
+use Rattle.lists.specs.Search.{any, any-append, all, all-append, find, find-cons-true, find-cons-false, seek, seek-cons-true, seek-cons-false, seek-none}
 use Rattle.lists.specs.Pairs.{clashes, clashes-false-at}
 
 module _ {A : Type 0} where
@@ -17,11 +17,10 @@ module _ {A : Type 0} where
   pub take-turn : (xs : List A) (d : A) (i : ℕ) → i < length xs → take (i + 1) xs ≡ take i xs ++ getD xs i d ∷ []
   take-turn xs d i h = rw add-one (take-suc xs i d h)
 
-  pub all-take : (p : A → Bool) (n : ℕ) (xs : List A) → all p xs ≡ true → all p (take n xs) ≡ true
+  -- a fact of those seen and of one more
+  pub all-turn : (p : A → Bool) (xs : List A) (d : A) (i : ℕ) → i < length xs → all p (take i xs) ≡ true → p (getD xs i d) ≡ true → all p (take (i + 1) xs) ≡ true
   unfolding all
-  all-take p zero xs e = refl
-  all-take p (suc n) [] e = refl
-  all-take p (suc n) (x ∷ xs) e = and-both (p x) (all p (take n xs)) (and-left (p x) (all p xs) e) (all-take p n xs (and-right (p x) (all p xs) e))
+  all-turn p xs d i h e f = rw (take-turn xs d i h, all-append p (take i xs) (getD xs i d ∷ []), e, f)
 
   pub find-append-some : (p : A → Bool) (xs ys : List A) (a : A) → find p xs ≡ some a → find p (xs ++ ys) ≡ some a
   unfolding find

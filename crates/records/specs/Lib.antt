@@ -3,3 +3,4 @@ pub mod Alone
 pub mod Pairing
 pub mod Ends
 pub mod Charging
+pub mod Passed

@@ -3,7 +3,6 @@
 ghost use mathlib.Core.Path.{_≡_};
 ghost use mathlib.Core.Bool.{true, false};
 ghost use Prim.Native.Nat.{_+_, _≤_, _<_, _^_, min};
-ghost use lib.ListN.{getD};
 ghost use Rattle.lists.specs.Search.{all};
 ghost use Rattle.lists.specs.Pairs.{clashes};
 ghost use Rattle.ranges.specs.Ranges.{U64MAX, range, lastOf};
@@ -13,12 +12,21 @@ ghost use Rattle.table.specs.Checked.{recordAlone};
 ghost use Rattle.records.specs.Alone.{zeroFields, founded, isNumber, sound, numbered, pageRead};
 ghost use Rattle.records.specs.Pairing.{startAfter};
 ghost use Rattle.records.specs.Charging.{chargedOf, leaderPlace, markAfter, addedBy};
+ghost use Rattle.records.specs.Passed.{Passed};
 use table::Mapping;
 
 // What the backings of the records come to.
 pub enum Charged {
     Disagree,
     Sum(u64),
+}
+
+// What one pass over the records tells: whether each keeps its own rules and the records of each backing agree. If so: whether the mappings of each space ascend in the order of the
+// records, so that no two share an address, and the pages of all backings.
+pub struct Pass {
+    pub good: bool,
+    pub ordered: bool,
+    pub charge: u64,
 }
 
 // ---- each record by itself
@@ -114,23 +122,6 @@ fn page_if(space: u32, page: u64) -> u64
     if space <= 32 { page } else { 0 }
 }
 
-// Whether each record keeps the rules of one record. Place s of `pages` has the alignment of space s, and 0 where s is no space.
-pub fn records_alone(pages: [u64; 33], ms: [Mapping; 128]) -> bool
-    ensures { λ b. ⌜ b ≡ all (λ m. recordAlone (getD pages (m .space) 0) m) ms ⌝ }
-{
-    let mut i: usize = 0;
-    while i < 128 {
-        let m = ms[i];
-        let k = page_place(m.space);
-        let page = page_if(m.space, pages[k]);
-        if !record_alone(page, m) {
-            return false;
-        }
-        i += 1;
-    }
-    true
-}
-
 // ---- pairs of records
 
 fn last_address(m: Mapping) -> u64
@@ -165,7 +156,7 @@ fn start_after(space: u32, i: usize) -> usize
 }
 
 // Whether two mappings of one space share an address, by every pair.
-fn some_pair(ms: [Mapping; 128]) -> bool
+pub fn some_together(ms: [Mapping; 128]) -> bool
     ensures { λ b. ⌜ b ≡ clashes together ms ⌝ }
 {
     let mut i: usize = 0;
@@ -210,36 +201,6 @@ fn keeps_order(space: u32, floor: u64, address: u64, last: u64) -> bool
         return false;
     }
     true
-}
-
-// Whether the mappings of each space ascend in the order of the records, so that none touches another.
-// Place s of `floors` has where the next mapping of space s may begin; 32 and the ids above it share place 32, and released records have place 0 to themselves.
-fn is_ordered(ms: [Mapping; 128]) -> bool
-    ensures { λ b. ⌜ (b ≡ true → clashes together ms ≡ false) ⌝ }
-{
-    let mut floors: [u64; 33] = [0; 33];
-    let mut i: usize = 0;
-    while i < 128 {
-        let m = ms[i];
-        let k = page_place(m.space);
-        let last = last_address(m);
-        if !keeps_order(m.space, floors[k], m.address, last) {
-            return false;
-        }
-        floors[k] = floor_after(last);
-        i += 1;
-    }
-    true
-}
-
-// Whether two mappings of one space share an address. Records in order need no pairs.
-pub fn some_together(ms: [Mapping; 128]) -> bool
-    ensures { λ b. ⌜ b ≡ clashes together ms ⌝ }
-{
-    if is_ordered(ms) {
-        return false;
-    }
-    some_pair(ms)
 }
 
 // ---- backings
@@ -307,4 +268,57 @@ pub fn charged_of(ms: [Mapping; 128]) -> Charged
         i += 1;
     }
     Charged::Sum(sum)
+}
+
+// ---- all of it in one pass
+
+// Of records that are not good nothing more is told.
+fn bad_pass() -> Pass
+    ensures { λ p. ⌜ p .good ≡ false ⌝ }
+{
+    Pass {
+        good: false,
+        ordered: false,
+        charge: 0,
+    }
+}
+
+// One pass over the records: each by itself, with the first of its backing, and with the floor of its space.
+// Place s of `pages` has the alignment of space s, and 0 where s is no space. `marks` is that of `charged_of`. Place s of `floors` has where the next mapping of space s may begin; 32 and the
+// ids above it share place 32, and released records have place 0 to themselves.
+pub fn pass_over(pages: [u64; 33], ms: [Mapping; 128]) -> Pass
+    ensures { λ p. ⌜ Passed pages ms p ⌝ }
+{
+    let mut marks: [u8; 129] = [0; 129];
+    let mut floors: [u64; 33] = [0; 33];
+    let mut charge: u64 = 0;
+    let mut ordered = true;
+    let mut i: usize = 0;
+    while i < 128 {
+        let m = ms[i];
+        let k = page_place(m.space);
+        let page = page_if(m.space, pages[k]);
+        if !record_alone(page, m) {
+            return bad_pass();
+        }
+        let b = m.backing as usize;
+        let mark = marks[b];
+        let j = leader_place(mark, i);
+        let leader = ms[j];
+        if differs(leader, m) {
+            return bad_pass();
+        }
+        charge += pages_if(mark, m);
+        marks[b] = mark_after(mark, i);
+        let last = last_address(m);
+        let keeps = keeps_order(m.space, floors[k], m.address, last);
+        ordered = command::both(ordered, keeps);
+        floors[k] = floor_after(last);
+        i += 1;
+    }
+    Pass {
+        good: true,
+        ordered,
+        charge,
+    }
 }

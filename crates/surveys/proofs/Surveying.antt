@@ -12,12 +12,11 @@ use borrow.Author.Tests.{eqb-true, eqb-false, eq-eqb, ne-eqb}
 use Rattle.lists.specs.Tests.{by-test, or-right, onlyIf}
 use Rattle.lists.specs.Search.{any, all, all-at, seek, seek-none, seek-some-lt, seek-cons-true, seek-cons-false}
 use Rattle.lists.specs.Below.{lowest, lowest-found, lowest-on, lowest-end}
-use Rattle.ranges.specs.declared.Range.{Range}
 use Rattle.rangelists.specs.declared.Found.{Found}
 use Rattle.rangelists.specs.declared.Found.the-variants.{Nothing, At}
 use Rattle.rangelists.specs.Listed.{found}
 use Rattle.table.specs.declared.Mapping.{Mapping}
-use Rattle.table.specs.Records.{zeroMapping, used, touches}
+use Rattle.table.specs.Records.{zeroMapping, used}
 use Rattle.table.specs.Charge.{backs, charge, freeMapping, freeBacking}
 use Rattle.records.specs.Alone.{numbered, numbered-most}
 use Rattle.records.specs.Ends.{take-turn, seek-append-some, seek-append-none}
@@ -93,8 +92,8 @@ lowest-cong p q (suc n) k h =
 
 -- ---- the pass
 
--- after i records: the lowest released one, the marks of the backings, the pages of those that have one, and whether the range is taken
-pub record Seen (s : ℕ) (r : Range) (ms : List Mapping) (i free sum : ℕ) (touched : Bool) (marks : List ℕ) : Type 0 where
+-- after i records: the lowest released one, the marks of the backings, and the pages of those that have one
+pub record Seen (ms : List Mapping) (i free sum : ℕ) (marks : List ℕ) : Type 0 where
   pub many : length ms ≡ 128
   pub upto : i ≤ 128
   pub room : length marks ≡ 129
@@ -102,15 +101,14 @@ pub record Seen (s : ℕ) (r : Range) (ms : List Mapping) (i free sum : ℕ) (to
   pub marked : (b : ℕ) → b ≤ 128 → getD marks b 0 ≡ onlyIf (any (backs b) (take i ms)) 1
   pub total : sum ≡ charge (take i ms)
   pub small : sum ≤ i * 2 ^ 53
-  pub taken : touched ≡ any (touches s r) (take i ms)
 
 -- no mark: no record seen has the backing
 unmarked-none : (b : Bool) → eqb (onlyIf b 1) 0 ≡ not b
 unmarked-none true = refl
 unmarked-none false = refl
 
-module _ (s : ℕ) (r : Range) (ms : List Mapping) where
-  pub seen-start : length ms ≡ 128 → Seen s r ms 0 128 0 false (replicate 129 0)
+module _ (ms : List Mapping) where
+  pub seen-start : length ms ≡ 128 → Seen ms 0 128 0 (replicate 129 0)
   unfolding freeMapping seek any
   seen-start h = record {
     many = h;
@@ -120,15 +118,14 @@ module _ (s : ℕ) (r : Range) (ms : List Mapping) where
     marked = λ b l. getD-replicate {A = ℕ} 129 b 0 0 (omega arith);
     total = sym charge-nil;
     small = omega arith;
-    taken = refl;
   }
 
-  module _ (i free sum : ℕ) (touched : Bool) (marks : List ℕ) (v : Seen s r ms i free sum touched marks) where
+  module _ (i free sum : ℕ) (marks : List ℕ) (v : Seen ms i free sum marks) where
     pub seen-end : 128 ≤ i → (f b : Found) → f ≡ foundAt free → b ≡ found (lowest (λ b. eqb (getD marks b 0) 0) 128 1)
-        → record { free = f; backing = b; charge = sum; touched = touched } ≡ surveyOf s r ms
+        → record { free = f; backing = b; charge = sum } ≡ surveyOf ms
     unfolding surveyOf freeBacking
     seen-end h f b ef eb =
-        rw (ef, eb, v .place, whole, place-found ms (omega (arith, v .many)), lowest-cong (unmarked marks) (λ b. not (any (backs b) ms)) 128 1 free-mark, v .total, v .taken, whole)
+        rw (ef, eb, v .place, whole, place-found ms (omega (arith, v .many)), lowest-cong (unmarked marks) (λ b. not (any (backs b) ms)) 128 1 free-mark, v .total, whole)
       where
         whole : take i ms ≡ ms
         whole = take-all i ms (omega (arith, v .many))
@@ -163,12 +160,12 @@ module _ (s : ℕ) (r : Range) (ms : List Mapping) where
           (λ t. getD-set-other marks (here .backing) b 1 0 (λ q. eqb-false (here .backing) b t (sym q)) ∙ v .marked b l
           ∙ ap (λ (b : Bool). onlyIf b 1) (sym (or-none (any (backs b) (take i ms)) (backs b here) t)))
 
-      pub seen-on : (place pages mark : ℕ) (now one : Bool) → place ≡ freeAfter free i (here .space)
+      pub seen-on : (place pages mark : ℕ) → place ≡ freeAfter free i (here .space)
           → pages ≡ addedBy (getD marks (here .backing) 0) here → pages ≤ 2 ^ 53
-          → one ≡ touches s r here → now ≡ (touched || one) → mark ≡ 1
-          → Seen s r ms (i + 1) place (sum + pages) now (set marks (here .backing) mark)
+          → mark ≡ 1
+          → Seen ms (i + 1) place (sum + pages) (set marks (here .backing) mark)
       unfolding addedBy
-      seen-on place pages mark now one ep ea small eo en em = record {
+      seen-on place pages mark ep ea small em = record {
         many = v .many;
         upto = omega arith;
         room = length-set marks (here .backing) mark ∙ v .room;
@@ -176,5 +173,4 @@ module _ (s : ℕ) (r : Range) (ms : List Mapping) where
         marked = λ b l. rw (em, turn, any-last (backs b) (take i ms) here) (marks-on b l);
         total = rw (turn, charge-append (take i ms) here numbered-here, ← unmarked-none (any (backs (here .backing)) (take i ms)), ← v .marked (here .backing) backing-most, ← ea, ← v .total);
         small = omega (arith, v .small, small);
-        taken = rw (turn, any-last (touches s r) (take i ms) here, ← v .taken, ← eo) en;
       }

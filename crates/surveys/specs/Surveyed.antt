@@ -1,4 +1,4 @@
--- What MAP and COPY ask of the mapping records, as one value: a free record, a free backing number, the charge, and whether a range is taken.
+-- What MAP and COPY ask of the mapping records, as one value: a free record, a free backing number, and the charge.
 -- With it the small functions of the pass, and that the records of a good table have the numbers that the pass relies on.
 use Prim.Native.Nat.{ℕ}
 use mathlib.Core.Path.{_≡_, ap}
@@ -7,24 +7,23 @@ use mathlib.Core.List.{List}
 use lib.Dec.{eqb}
 use borrow.Author.Tests.{le-leb, eq-eqb}
 use Rattle.lists.specs.Tests.{by-test}
-use Rattle.lists.specs.Search.{any, all}
+use Rattle.lists.specs.Search.{all}
 use Rattle.lists.specs.Each.{Each, Each-imp, all-Each}
-use Rattle.ranges.specs.declared.Range.{Range}
 use Rattle.rangelists.specs.declared.Found.{Found}
 use Rattle.rangelists.specs.declared.Found.the-variants.{Nothing, At}
 use Rattle.rangelists.specs.Listed.{found}
 use Rattle.table.specs.declared.Object.{Object}
 use Rattle.table.specs.declared.Mapping.{Mapping}
-use Rattle.table.specs.Records.{used, touches}
+use Rattle.table.specs.Records.{used}
 use Rattle.table.specs.Charge.{charge, freeMapping, freeBacking}
 use Rattle.table.specs.Checked.{recordOk}
 use Rattle.table.specs.Facts.{record-used, record-free}
 use Rattle.records.specs.Alone.{numbered}
 use Rattle.surveys.specs.declared.Survey.{Survey}
 
--- the records, before something is mapped at r in space s
-unfoldable pub surveyOf : ℕ → Range → List Mapping → Survey
-surveyOf s r ms = record { free = found (freeMapping ms); backing = found (freeBacking ms); charge = charge ms; touched = any (touches s r) ms }
+-- the records, before something is mapped
+unfoldable pub surveyOf : List Mapping → Survey
+surveyOf ms = record { free = found (freeMapping ms); backing = found (freeBacking ms); charge = charge ms }
 
 -- the lowest released place, or 128 for none, with one more record at place i
 unfoldable pub freeAfter : ℕ → ℕ → ℕ → ℕ

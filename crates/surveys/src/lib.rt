@@ -6,9 +6,10 @@ ghost use Prim.Native.Nat.{_≤_};
 ghost use lib.Dec.{eqb};
 ghost use lib.ListN.{getD};
 ghost use Rattle.lists.specs.Tests.{onlyIf};
-ghost use Rattle.lists.specs.Search.{all};
+ghost use Rattle.lists.specs.Search.{any, all};
 ghost use Rattle.lists.specs.Below.{lowest};
 ghost use Rattle.rangelists.specs.Listed.{found};
+ghost use Rattle.table.specs.Records.{touches};
 ghost use Rattle.records.specs.Alone.{numbered};
 ghost use Rattle.surveys.specs.Surveyed.{freeAfter, foundAt, surveyOf};
 ghost use Rattle.surveys.specs.Sourced.{isSource, sourceOf, sourced};
@@ -17,12 +18,11 @@ use rangelists::Found;
 use ranges::Range;
 use table::Mapping;
 
-// For MAP and COPY: the lowest released record, the lowest backing number that is not in use, the charge, and whether the range is taken.
+// For MAP and COPY: the lowest released record, the lowest backing number that is not in use, and the charge.
 pub struct Survey {
     pub free: Found,
     pub backing: Found,
     pub charge: u64,
-    pub touched: bool,
 }
 
 // The mapping that a COPY names.
@@ -86,14 +86,13 @@ fn lowest_unmarked(marks: [u8; 129]) -> Found
 }
 
 // `marks` has a 1 for each backing that was seen. A backing is charged with its first record.
-pub fn survey_of(ms: [Mapping; 128], s: u32, r: Range) -> Survey
+pub fn survey_of(ms: [Mapping; 128]) -> Survey
     requires { ⌜ all numbered ms ≡ true ⌝ }
-    ensures { λ v. ⌜ v ≡ surveyOf s r ms ⌝ }
+    ensures { λ v. ⌜ v ≡ surveyOf ms ⌝ }
 {
     let mut marks: [u8; 129] = [0; 129];
     let mut free: usize = 128;
     let mut charge: u64 = 0;
-    let mut touched = false;
     let mut i: usize = 0;
     while i < 128 {
         let m = ms[i];
@@ -101,7 +100,6 @@ pub fn survey_of(ms: [Mapping; 128], s: u32, r: Range) -> Survey
         let mark = marks[b];
         free = free_after(free, i, m.space);
         charge += records::pages_if(mark, m);
-        touched = command::either(touched, table::is_touched(m, s, r));
         marks[b] = 1;
         i += 1;
     }
@@ -111,8 +109,22 @@ pub fn survey_of(ms: [Mapping; 128], s: u32, r: Range) -> Survey
         free: place,
         backing,
         charge,
-        touched,
     }
+}
+
+// Whether a mapping of space s has an address in the range. Only a fixed address asks it, before the survey.
+pub fn is_taken(ms: [Mapping; 128], s: u32, r: Range) -> bool
+    ensures { λ b. ⌜ b ≡ any (touches s r) ms ⌝ }
+{
+    let mut i: usize = 0;
+    while i < 128 {
+        let m = ms[i];
+        if table::is_touched(m, s, r) {
+            return true;
+        }
+        i += 1;
+    }
+    false
 }
 
 // The source of a COPY: the mapping of space s with this address and length.

@@ -1,5 +1,5 @@
-// What runs before every call: whether a table is good. What mappings need of the objects is in the digest; then each record is looked at by
-// itself, then backings and charge in one pass, then pairs.
+// What runs before every call: whether a table is good. What mappings need of the objects is in the digest; one pass looks at the records, and
+// pairs of them are compared only where the pass found some out of order.
 ghost use mathlib.Core.List.{List};
 ghost use mathlib.Core.Path.{_≡_};
 ghost use Prim.Native.Nat.{ℕ};
@@ -8,7 +8,6 @@ ghost use Rattle.table.specs.Good.{good};
 ghost use Rattle.digests.specs.Digest.{DigestOf};
 ghost use Rattle.tablecheck.specs.Gate.{tableWith};
 use digests::Digest;
-use records::Charged;
 use table::Mapping;
 use table::Object;
 
@@ -19,22 +18,22 @@ pub fn is_good(limit: u64, d: Digest, ms: [Mapping; 128]) -> bool
         return false;
     }
     let pages = d.pages;
-    if !records::records_alone(pages, ms) {
+    let p = records::pass_over(pages, ms);
+    if !p.good {
         return false;
     }
     let blocks = d.blocks;
     if !facts::mappings_clear(blocks, ms) {
         return false;
     }
-    let c = records::charged_of(ms);
-    let Charged::Sum(sum) = c else {
-        return false;
-    };
-    if limit < sum {
+    if limit < p.charge {
         return false;
     }
     if 0x10_0000_0000 < limit {
         return false;
+    }
+    if p.ordered {
+        return true;
     }
     !records::some_together(ms)
 }

@@ -1,7 +1,6 @@
 -- The numbers, the source, the place or the records refused, or the copy is made.
 use Rattle.surveys.specs.Surveyed.{records-numbered}
 use Rattle.mappings.specs.Sites.{known-is, second-is}
-use Rattle.mappings.proofs.Staging.{touched-is}
 use Rattle.copying.proofs.Copying.{by-numbers, by-source, by-place, by-records, by-copying}
 use borrow.Author.Needs.{needs}
 use Rattle.copying.proofs.decide_copy.Statement.{statement}
@@ -34,12 +33,6 @@ refusal-requires-2 c κs = search needs
 returns-2 : tie.Need-returns-2
 returns-2 c = λ os h. by-source os _ (c .before .before .before .before .before .before .before .before .before .before .args .t) _ _ _ (c .before .before .before .before .before .copy-number-errno .ensures os (c .before .before .before .before .before .before .before .before .before .before .args .source) (known-is os (c .before .before .before .before .before .before .before .before .before .before .args .ms) (c .before .before .before .before .before .before .before .before .before .before .args .t) (c .before .before .before .before .before .before .before .before .before .before .args .source) (c .before .before .before .before .before .before .before .before .before .before .args .d) h _ (c .before .before .before .before .before .before .before .is-space .ensures)) (second-is os (c .before .before .before .before .before .before .before .before .before .before .args .ms) (c .before .before .before .before .before .before .before .before .before .before .args .t) (c .before .before .before .before .before .before .before .before .before .before .args .source) (c .before .before .before .before .before .before .before .before .before .before .args .d) h _ (c .before .before .before .before .before .before .is-space2 .ensures))) (c .before .before .before .before .if1 .left) _ (c .before .before .before .find-mapping .ensures) _ (c .before .before .source-errno .ensures) _ (c .before .if2 .taken) (c .refusal2 .ensures)
 
-span-of-requires : tie.Need-span-of-requires
-span-of-requires c κs = search needs
-
-survey-of-requires : tie.Need-survey-of-requires
-survey-of-requires c κs = records-numbered (c .before .before .before .before .before .before .before .before .before .before .pre .0) _ (c .before .before .before .before .before .before .before .before .before .before .pre .1)
-
 place-in-requires : tie.Need-place-in-requires
 place-in-requires c κs = search needs
 
@@ -47,7 +40,10 @@ refusal-requires-3 : tie.Need-refusal-requires-3
 refusal-requires-3 c κs = search needs
 
 returns-3 : tie.Need-returns-3
-returns-3 c = λ os h. by-place os _ (c .before .before .before .before .before .before .before .before .before .before .before .before .before .before .before .args .t) _ _ _ (c .before .before .before .before .before .before .before .before .before .before .copy-number-errno .ensures os (c .before .before .before .before .before .before .before .before .before .before .before .before .before .before .before .args .source) (known-is os (c .before .before .before .before .before .before .before .before .before .before .before .before .before .before .before .args .ms) (c .before .before .before .before .before .before .before .before .before .before .before .before .before .before .before .args .t) (c .before .before .before .before .before .before .before .before .before .before .before .before .before .before .before .args .source) (c .before .before .before .before .before .before .before .before .before .before .before .before .before .before .before .args .d) h _ (c .before .before .before .before .before .before .before .before .before .before .before .before .is-space .ensures)) (second-is os (c .before .before .before .before .before .before .before .before .before .before .before .before .before .before .before .args .ms) (c .before .before .before .before .before .before .before .before .before .before .before .before .before .before .before .args .t) (c .before .before .before .before .before .before .before .before .before .before .before .before .before .before .before .args .source) (c .before .before .before .before .before .before .before .before .before .before .before .before .before .before .before .args .d) h _ (c .before .before .before .before .before .before .before .before .before .before .before .is-space2 .ensures))) (c .before .before .before .before .before .before .before .before .before .if1 .left) _ (c .before .before .before .before .before .before .before .before .find-mapping .ensures) _ (c .before .before .before .before .before .before .before .source-errno .ensures) (c .before .before .before .before .before .before .if2 .left) _ (c .before .before .before .place-in .ensures os _ h (touched-is _ _ _ _ _ _ (c .before .before .before .before .before .span-of .ensures) (c .before .before .before .before .survey-of .ensures))) _ (c .before .if3 .taken) (c .refusal3 .ensures)
+returns-3 c = λ os h. by-place os _ (c .before .before .before .before .before .before .before .before .before .before .before .before .before .args .t) _ _ _ (c .before .before .before .before .before .before .before .before .copy-number-errno .ensures os (c .before .before .before .before .before .before .before .before .before .before .before .before .before .args .source) (known-is os (c .before .before .before .before .before .before .before .before .before .before .before .before .before .args .ms) (c .before .before .before .before .before .before .before .before .before .before .before .before .before .args .t) (c .before .before .before .before .before .before .before .before .before .before .before .before .before .args .source) (c .before .before .before .before .before .before .before .before .before .before .before .before .before .args .d) h _ (c .before .before .before .before .before .before .before .before .before .before .is-space .ensures)) (second-is os (c .before .before .before .before .before .before .before .before .before .before .before .before .before .args .ms) (c .before .before .before .before .before .before .before .before .before .before .before .before .before .args .t) (c .before .before .before .before .before .before .before .before .before .before .before .before .before .args .source) (c .before .before .before .before .before .before .before .before .before .before .before .before .before .args .d) h _ (c .before .before .before .before .before .before .before .before .before .is-space2 .ensures))) (c .before .before .before .before .before .before .before .if1 .left) _ (c .before .before .before .before .before .before .find-mapping .ensures) _ (c .before .before .before .before .before .source-errno .ensures) (c .before .before .before .before .if2 .left) _ (c .before .before .before .place-in .ensures os _ h) _ (c .before .if3 .taken) (c .refusal3 .ensures)
+
+survey-of-requires : tie.Need-survey-of-requires
+survey-of-requires c κs = records-numbered (c .before .before .before .before .before .before .before .before .before .before .before .before .pre .0) _ (c .before .before .before .before .before .before .before .before .before .before .before .before .pre .1)
 
 record-errno-requires : tie.Need-record-errno-requires
 record-errno-requires c κs = search needs
@@ -56,7 +52,7 @@ refusal-requires-4 : tie.Need-refusal-requires-4
 refusal-requires-4 c κs = search needs
 
 returns-4 : tie.Need-returns-4
-returns-4 c = λ os h. by-records os _ (c .before .before .before .before .before .before .before .before .before .before .before .before .before .before .before .before .before .args .t) _ _ _ (c .before .before .before .before .before .before .before .before .before .before .before .before .copy-number-errno .ensures os (c .before .before .before .before .before .before .before .before .before .before .before .before .before .before .before .before .before .args .source) (known-is os (c .before .before .before .before .before .before .before .before .before .before .before .before .before .before .before .before .before .args .ms) (c .before .before .before .before .before .before .before .before .before .before .before .before .before .before .before .before .before .args .t) (c .before .before .before .before .before .before .before .before .before .before .before .before .before .before .before .before .before .args .source) (c .before .before .before .before .before .before .before .before .before .before .before .before .before .before .before .before .before .args .d) h _ (c .before .before .before .before .before .before .before .before .before .before .before .before .before .before .is-space .ensures)) (second-is os (c .before .before .before .before .before .before .before .before .before .before .before .before .before .before .before .before .before .args .ms) (c .before .before .before .before .before .before .before .before .before .before .before .before .before .before .before .before .before .args .t) (c .before .before .before .before .before .before .before .before .before .before .before .before .before .before .before .before .before .args .source) (c .before .before .before .before .before .before .before .before .before .before .before .before .before .before .before .before .before .args .d) h _ (c .before .before .before .before .before .before .before .before .before .before .before .before .before .is-space2 .ensures))) (c .before .before .before .before .before .before .before .before .before .before .before .if1 .left) _ (c .before .before .before .before .before .before .before .before .before .before .find-mapping .ensures) _ (c .before .before .before .before .before .before .before .before .before .source-errno .ensures) (c .before .before .before .before .before .before .before .before .if2 .left) _ (c .before .before .before .before .before .place-in .ensures os _ h (touched-is _ _ _ _ _ _ (c .before .before .before .before .before .before .before .span-of .ensures) (c .before .before .before .before .before .before .survey-of .ensures))) (c .before .before .before .if3 .left) _ _ (c .before .before .before .before .before .before .survey-of .ensures) _ (c .before .before .record-errno .ensures) _ (c .before .if4 .taken) (c .refusal4 .ensures)
+returns-4 c = λ os h. by-records os _ (c .before .before .before .before .before .before .before .before .before .before .before .before .before .before .before .before .args .t) _ _ _ (c .before .before .before .before .before .before .before .before .before .before .before .copy-number-errno .ensures os (c .before .before .before .before .before .before .before .before .before .before .before .before .before .before .before .before .args .source) (known-is os (c .before .before .before .before .before .before .before .before .before .before .before .before .before .before .before .before .args .ms) (c .before .before .before .before .before .before .before .before .before .before .before .before .before .before .before .before .args .t) (c .before .before .before .before .before .before .before .before .before .before .before .before .before .before .before .before .args .source) (c .before .before .before .before .before .before .before .before .before .before .before .before .before .before .before .before .args .d) h _ (c .before .before .before .before .before .before .before .before .before .before .before .before .before .is-space .ensures)) (second-is os (c .before .before .before .before .before .before .before .before .before .before .before .before .before .before .before .before .args .ms) (c .before .before .before .before .before .before .before .before .before .before .before .before .before .before .before .before .args .t) (c .before .before .before .before .before .before .before .before .before .before .before .before .before .before .before .before .args .source) (c .before .before .before .before .before .before .before .before .before .before .before .before .before .before .before .before .args .d) h _ (c .before .before .before .before .before .before .before .before .before .before .before .before .is-space2 .ensures))) (c .before .before .before .before .before .before .before .before .before .before .if1 .left) _ (c .before .before .before .before .before .before .before .before .before .find-mapping .ensures) _ (c .before .before .before .before .before .before .before .before .source-errno .ensures) (c .before .before .before .before .before .before .before .if2 .left) _ (c .before .before .before .before .before .before .place-in .ensures os _ h) (c .before .before .before .before .if3 .left) _ (c .before .before .before .survey-of .ensures) _ (c .before .before .record-errno .ensures) _ (c .before .if4 .taken) (c .refusal4 .ensures)
 
 source-mapping-requires : tie.Need-source-mapping-requires
 source-mapping-requires c κs = search needs
@@ -68,7 +64,7 @@ put-new-requires : tie.Need-put-new-requires
 put-new-requires c κs = search needs
 
 returns-5 : tie.Need-returns-5
-returns-5 c = λ os h. by-copying os _ (c .before .before .before .before .before .before .before .before .before .before .before .before .before .before .before .before .before .before .before .args .t) _ _ _ (c .before .before .before .before .before .before .before .before .before .before .before .before .before .before .copy-number-errno .ensures os (c .before .before .before .before .before .before .before .before .before .before .before .before .before .before .before .before .before .before .before .args .source) (known-is os (c .before .before .before .before .before .before .before .before .before .before .before .before .before .before .before .before .before .before .before .args .ms) (c .before .before .before .before .before .before .before .before .before .before .before .before .before .before .before .before .before .before .before .args .t) (c .before .before .before .before .before .before .before .before .before .before .before .before .before .before .before .before .before .before .before .args .source) (c .before .before .before .before .before .before .before .before .before .before .before .before .before .before .before .before .before .before .before .args .d) h _ (c .before .before .before .before .before .before .before .before .before .before .before .before .before .before .before .before .is-space .ensures)) (second-is os (c .before .before .before .before .before .before .before .before .before .before .before .before .before .before .before .before .before .before .before .args .ms) (c .before .before .before .before .before .before .before .before .before .before .before .before .before .before .before .before .before .before .before .args .t) (c .before .before .before .before .before .before .before .before .before .before .before .before .before .before .before .before .before .before .before .args .source) (c .before .before .before .before .before .before .before .before .before .before .before .before .before .before .before .before .before .before .before .args .d) h _ (c .before .before .before .before .before .before .before .before .before .before .before .before .before .before .before .is-space2 .ensures))) (c .before .before .before .before .before .before .before .before .before .before .before .before .before .if1 .left) _ (c .before .before .before .before .before .before .before .before .before .before .before .before .find-mapping .ensures) _ (c .before .before .before .before .before .before .before .before .before .before .before .source-errno .ensures) (c .before .before .before .before .before .before .before .before .before .before .if2 .left) _ (c .before .before .before .before .before .before .before .place-in .ensures os _ h (touched-is _ _ _ _ _ _ (c .before .before .before .before .before .before .before .before .before .span-of .ensures) (c .before .before .before .before .before .before .before .before .survey-of .ensures))) (c .before .before .before .before .before .if3 .left) _ _ (c .before .before .before .before .before .before .before .before .survey-of .ensures) _ (c .before .before .before .before .record-errno .ensures) _ _ _ (c .before .before .before .if4 .left) (c .before .before .source-mapping .ensures) (c .before .copied .ensures) (c .put-new .ensures)
+returns-5 c = λ os h. by-copying os _ (c .before .before .before .before .before .before .before .before .before .before .before .before .before .before .before .before .before .before .args .t) _ _ _ (c .before .before .before .before .before .before .before .before .before .before .before .before .before .copy-number-errno .ensures os (c .before .before .before .before .before .before .before .before .before .before .before .before .before .before .before .before .before .before .args .source) (known-is os (c .before .before .before .before .before .before .before .before .before .before .before .before .before .before .before .before .before .before .args .ms) (c .before .before .before .before .before .before .before .before .before .before .before .before .before .before .before .before .before .before .args .t) (c .before .before .before .before .before .before .before .before .before .before .before .before .before .before .before .before .before .before .args .source) (c .before .before .before .before .before .before .before .before .before .before .before .before .before .before .before .before .before .before .args .d) h _ (c .before .before .before .before .before .before .before .before .before .before .before .before .before .before .before .is-space .ensures)) (second-is os (c .before .before .before .before .before .before .before .before .before .before .before .before .before .before .before .before .before .before .args .ms) (c .before .before .before .before .before .before .before .before .before .before .before .before .before .before .before .before .before .before .args .t) (c .before .before .before .before .before .before .before .before .before .before .before .before .before .before .before .before .before .before .args .source) (c .before .before .before .before .before .before .before .before .before .before .before .before .before .before .before .before .before .before .args .d) h _ (c .before .before .before .before .before .before .before .before .before .before .before .before .before .before .is-space2 .ensures))) (c .before .before .before .before .before .before .before .before .before .before .before .before .if1 .left) _ (c .before .before .before .before .before .before .before .before .before .before .before .find-mapping .ensures) _ (c .before .before .before .before .before .before .before .before .before .before .source-errno .ensures) (c .before .before .before .before .before .before .before .before .before .if2 .left) _ (c .before .before .before .before .before .before .before .before .place-in .ensures os _ h) (c .before .before .before .before .before .before .if3 .left) _ (c .before .before .before .before .before .survey-of .ensures) _ (c .before .before .before .before .record-errno .ensures) _ _ _ (c .before .before .before .if4 .left) (c .before .before .source-mapping .ensures) (c .before .copied .ensures) (c .put-new .ensures)
 
 pub decide-copy-spec : {M : Type 1} → statement M
 decide-copy-spec =
@@ -83,11 +79,10 @@ decide-copy-spec =
     source-errno-requires
     refusal-requires-2
     returns-2
-    span-of-requires
-    survey-of-requires
     place-in-requires
     refusal-requires-3
     returns-3
+    survey-of-requires
     record-errno-requires
     refusal-requires-4
     returns-4

@@ -2,7 +2,6 @@
 use Rattle.surveys.specs.Surveyed.{records-numbered}
 use Rattle.mappings.specs.Sites.{known-is}
 use Rattle.mappings.proofs.Deciding.{by-numbers, by-place, by-room, by-making}
-use Rattle.mappings.proofs.Staging.{touched-is}
 use Rattle.mappings.proofs.Making.{backing-fits}
 use borrow.Author.Needs.{needs}
 use Rattle.mappings.proofs.decide_map.Statement.{statement}
@@ -20,12 +19,6 @@ refusal-requires c κs = search needs
 returns : tie.Need-returns
 returns c = λ os b h. by-numbers _ os _ (c .before .before .before .before .before .args .t) _ _ _ _ (c .before .before .map-number-errno .ensures os (known-is os (c .before .before .before .before .before .args .ms) (c .before .before .before .before .before .args .t) b (c .before .before .before .before .before .args .d) h _ (c .before .before .before .is-space .ensures))) (c .before .if1 .taken) (c .refusal .ensures)
 
-span-of-requires : tie.Need-span-of-requires
-span-of-requires c κs = search needs
-
-survey-of-requires : tie.Need-survey-of-requires
-survey-of-requires c κs = records-numbered (c .before .before .before .before .before .pre .0) _ (c .before .before .before .before .before .pre .1)
-
 place-in-requires : tie.Need-place-in-requires
 place-in-requires c κs = search needs
 
@@ -33,7 +26,10 @@ refusal-requires-2 : tie.Need-refusal-requires-2
 refusal-requires-2 c κs = search needs
 
 returns-2 : tie.Need-returns-2
-returns-2 c = λ os b h. by-place _ os _ (c .before .before .before .before .before .before .before .before .before .before .args .t) _ _ _ (c .before .before .before .before .before .before .before .map-number-errno .ensures os (known-is os (c .before .before .before .before .before .before .before .before .before .before .args .ms) (c .before .before .before .before .before .before .before .before .before .before .args .t) b (c .before .before .before .before .before .before .before .before .before .before .args .d) h _ (c .before .before .before .before .before .before .before .before .is-space .ensures))) (c .before .before .before .before .before .before .if1 .left) _ (c .before .before .before .place-in .ensures os b h (touched-is _ _ _ _ _ _ (c .before .before .before .before .before .span-of .ensures) (c .before .before .before .before .survey-of .ensures))) _ (c .before .if2 .taken) (c .refusal2 .ensures)
+returns-2 c = λ os b h. by-place _ os _ (c .before .before .before .before .before .before .before .before .args .t) _ _ _ (c .before .before .before .before .before .map-number-errno .ensures os (known-is os (c .before .before .before .before .before .before .before .before .args .ms) (c .before .before .before .before .before .before .before .before .args .t) b (c .before .before .before .before .before .before .before .before .args .d) h _ (c .before .before .before .before .before .before .is-space .ensures))) (c .before .before .before .before .if1 .left) _ (c .before .before .before .place-in .ensures os b h) _ (c .before .if2 .taken) (c .refusal2 .ensures)
+
+survey-of-requires : tie.Need-survey-of-requires
+survey-of-requires c κs = records-numbered (c .before .before .before .before .before .before .before .pre .0) _ (c .before .before .before .before .before .before .before .pre .1)
 
 pages-touched-requires : tie.Need-pages-touched-requires
 pages-touched-requires c κs = search needs
@@ -45,10 +41,10 @@ refusal-requires-3 : tie.Need-refusal-requires-3
 refusal-requires-3 c κs = search needs
 
 returns-3 : tie.Need-returns-3
-returns-3 c = λ os b h. by-room _ os _ (c .before .before .before .before .before .before .before .before .before .before .before .before .before .args .t) _ _ _ (c .before .before .before .before .before .before .before .before .before .before .map-number-errno .ensures os (known-is os (c .before .before .before .before .before .before .before .before .before .before .before .before .before .args .ms) (c .before .before .before .before .before .before .before .before .before .before .before .before .before .args .t) b (c .before .before .before .before .before .before .before .before .before .before .before .before .before .args .d) h _ (c .before .before .before .before .before .before .before .before .before .before .before .is-space .ensures))) (c .before .before .before .before .before .before .before .before .before .if1 .left) _ (c .before .before .before .before .before .before .place-in .ensures os b h (touched-is _ _ _ _ _ _ (c .before .before .before .before .before .before .before .before .span-of .ensures) (c .before .before .before .before .before .before .before .survey-of .ensures))) (c .before .before .before .before .if2 .left) _ _ (c .before .before .before .before .before .before .before .survey-of .ensures) _ _ (c .before .before .before .pages-touched .ensures .0) (c .before .before .room-errno .ensures) _ (c .before .if3 .taken) (c .refusal3 .ensures)
+returns-3 c = λ os b h. by-room _ os _ (c .before .before .before .before .before .before .before .before .before .before .before .before .args .t) _ _ _ (c .before .before .before .before .before .before .before .before .before .map-number-errno .ensures os (known-is os (c .before .before .before .before .before .before .before .before .before .before .before .before .args .ms) (c .before .before .before .before .before .before .before .before .before .before .before .before .args .t) b (c .before .before .before .before .before .before .before .before .before .before .before .before .args .d) h _ (c .before .before .before .before .before .before .before .before .before .before .is-space .ensures))) (c .before .before .before .before .before .before .before .before .if1 .left) _ (c .before .before .before .before .before .before .before .place-in .ensures os b h) (c .before .before .before .before .before .if2 .left) _ (c .before .before .before .before .survey-of .ensures) _ _ (c .before .before .before .pages-touched .ensures .0) (c .before .before .room-errno .ensures) _ (c .before .if3 .taken) (c .refusal3 .ensures)
 
 number-in-requires : tie.Need-number-in-requires
-number-in-requires c κs = backing-fits _ _ _ _ (c .before .before .before .before .before .before .survey-of .ensures)
+number-in-requires c κs = backing-fits _ _ (c .before .before .before .survey-of .ensures)
 
 founded-requires : tie.Need-founded-requires
 founded-requires c κs = search needs
@@ -57,7 +53,7 @@ put-new-requires : tie.Need-put-new-requires
 put-new-requires c κs = search needs
 
 returns-4 : tie.Need-returns-4
-returns-4 c = λ os b h. by-making _ os _ (c .before .before .before .before .before .before .before .before .before .before .before .before .before .before .before .args .t) _ _ _ (c .before .before .before .before .before .before .before .before .before .before .before .before .map-number-errno .ensures os (known-is os (c .before .before .before .before .before .before .before .before .before .before .before .before .before .before .before .args .ms) (c .before .before .before .before .before .before .before .before .before .before .before .before .before .before .before .args .t) b (c .before .before .before .before .before .before .before .before .before .before .before .before .before .before .before .args .d) h _ (c .before .before .before .before .before .before .before .before .before .before .before .before .before .is-space .ensures))) (c .before .before .before .before .before .before .before .before .before .before .before .if1 .left) _ (c .before .before .before .before .before .before .before .before .place-in .ensures os b h (touched-is _ _ _ _ _ _ (c .before .before .before .before .before .before .before .before .before .before .span-of .ensures) (c .before .before .before .before .before .before .before .before .before .survey-of .ensures))) (c .before .before .before .before .before .before .if2 .left) _ _ (c .before .before .before .before .before .before .before .before .before .survey-of .ensures) _ _ (c .before .before .before .before .before .pages-touched .ensures .0) (c .before .before .before .before .room-errno .ensures) _ _ _ (c .before .before .before .if3 .left) (c .before .before .number-in .ensures) (c .before .founded .ensures) (c .put-new .ensures)
+returns-4 c = λ os b h. by-making _ os _ (c .before .before .before .before .before .before .before .before .before .before .before .before .before .before .args .t) _ _ _ (c .before .before .before .before .before .before .before .before .before .before .before .map-number-errno .ensures os (known-is os (c .before .before .before .before .before .before .before .before .before .before .before .before .before .before .args .ms) (c .before .before .before .before .before .before .before .before .before .before .before .before .before .before .args .t) b (c .before .before .before .before .before .before .before .before .before .before .before .before .before .before .args .d) h _ (c .before .before .before .before .before .before .before .before .before .before .before .before .is-space .ensures))) (c .before .before .before .before .before .before .before .before .before .before .if1 .left) _ (c .before .before .before .before .before .before .before .before .before .place-in .ensures os b h) (c .before .before .before .before .before .before .before .if2 .left) _ (c .before .before .before .before .before .before .survey-of .ensures) _ _ (c .before .before .before .before .before .pages-touched .ensures .0) (c .before .before .before .before .room-errno .ensures) _ _ _ (c .before .before .before .if3 .left) (c .before .before .number-in .ensures) (c .before .founded .ensures) (c .put-new .ensures)
 
 pub decide-map-spec : {M : Type 1} → statement M
 decide-map-spec =
@@ -67,11 +63,10 @@ decide-map-spec =
     map-number-errno-requires
     refusal-requires
     returns
-    span-of-requires
-    survey-of-requires
     place-in-requires
     refusal-requires-2
     returns-2
+    survey-of-requires
     pages-touched-requires
     room-errno-requires
     refusal-requires-3

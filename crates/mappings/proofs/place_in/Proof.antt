@@ -1,6 +1,7 @@
 -- The place, by what the digest tells.
 use mathlib.Core.Path.{sym, _∙_}
 use Rattle.mappings.specs.Sites.{reserved-is, allow-is, blocked-is}
+use Rattle.mappings.proofs.Staging.{touched-is}
 use borrow.Author.Needs.{needs}
 use Rattle.mappings.proofs.place_in.Statement.{statement}
 use Rattle.mappings.proofs.place_in.Tie as tie
@@ -14,11 +15,14 @@ span-of-requires c κs = search needs
 is-blocked-requires : tie.Need-is-blocked-requires
 is-blocked-requires c κs = search needs
 
+is-taken-requires : tie.Need-is-taken-requires
+is-taken-requires c κs = search needs
+
 place-fixed-requires : tie.Need-place-fixed-requires
 place-fixed-requires c κs = search needs
 
 returns : tie.Need-returns
-returns c = λ os b h m. c .place-fixed .ensures os (c .before .before .before .before .before .before .args .ms) (sym (c .before .before .before .before .is-fixed .ensures) ∙ c .before .before .before .if1 .taken) (h .alignment) (reserved-is os (c .before .before .before .before .before .before .args .ms) (c .before .before .before .before .before .before .args .t) b (c .before .before .before .before .before .before .args .d) h _ _ (c .before .before .span-of .ensures) (c .before .is-blocked .ensures)) m
+returns c = λ os b h. c .place-fixed .ensures os (c .before .before .before .before .before .before .before .args .ms) (sym (c .before .before .before .before .before .is-fixed .ensures) ∙ c .before .before .before .before .if1 .taken) (h .alignment) (reserved-is os (c .before .before .before .before .before .before .before .args .ms) (c .before .before .before .before .before .before .before .args .t) b (c .before .before .before .before .before .before .before .args .d) h _ _ (c .before .before .before .span-of .ensures) (c .before .before .is-blocked .ensures)) (touched-is (c .before .before .before .before .before .before .before .args .ms) _ _ _ _ _ (c .before .before .before .span-of .ensures) (c .before .is-taken .ensures))
 
 blocked-in-requires : tie.Need-blocked-in-requires
 blocked-in-requires c κs = search needs
@@ -27,7 +31,7 @@ place-automatic-requires : tie.Need-place-automatic-requires
 place-automatic-requires c κs = search needs
 
 returns-2 : tie.Need-returns-2
-returns-2 c = λ os b h m. c .place-automatic .ensures os (c .before .before .before .before .before .before .before .args .ms) (sym (c .before .before .before .before .before .is-fixed .ensures) ∙ c .before .before .before .before .if1 .left) (h .alignment) (allow-is os (c .before .before .before .before .before .before .before .args .ms) (c .before .before .before .before .before .before .before .args .t) b (c .before .before .before .before .before .before .before .args .d) h) (blocked-is os (c .before .before .before .before .before .before .before .args .ms) (c .before .before .before .before .before .before .before .args .t) b (c .before .before .before .before .before .before .before .args .d) h _ (c .before .blocked-in .ensures))
+returns-2 c = λ os b h. c .place-automatic .ensures os (c .before .before .before .before .before .before .before .args .ms) (sym (c .before .before .before .before .before .is-fixed .ensures) ∙ c .before .before .before .before .if1 .left) (h .alignment) (allow-is os (c .before .before .before .before .before .before .before .args .ms) (c .before .before .before .before .before .before .before .args .t) b (c .before .before .before .before .before .before .before .args .d) h) (blocked-is os (c .before .before .before .before .before .before .before .args .ms) (c .before .before .before .before .before .before .before .args .t) b (c .before .before .before .before .before .before .before .args .d) h _ (c .before .blocked-in .ensures))
 
 pub place-in-spec : {M : Type 1} → statement M
 place-in-spec =
@@ -36,6 +40,7 @@ place-in-spec =
     is-fixed-requires
     span-of-requires
     is-blocked-requires
+    is-taken-requires
     place-fixed-requires
     returns
     blocked-in-requires

@@ -8,13 +8,13 @@ use Rattle.surveys.proofs.survey_of.Statement.{statement}
 use Rattle.surveys.proofs.survey_of.Tie as tie
 
 abbrev Inv-loop : tie.InvT-loop
-Inv-loop s r ms marks₀ free₀ charge₀ touched₀ i₀ marks free charge touched i = Seen s r ms i free charge touched marks
+Inv-loop ms marks₀ free₀ charge₀ i₀ marks free charge i = Seen ms i free charge marks
 
 abbrev μ-loop : tie.MeasureT-loop
-μ-loop s r ms marks₀ free₀ charge₀ touched₀ i₀ marks free charge touched i = 128 - i
+μ-loop ms marks₀ free₀ charge₀ i₀ marks free charge i = 128 - i
 
 loop-holds : tie.Need-loop-holds Inv-loop μ-loop
-loop-holds c = seen-start _ _ _ (search (needs, length-mapped))
+loop-holds c = seen-start _ (search (needs, length-mapped))
 
 mul-m : tie.Need-mul-m Inv-loop μ-loop
 mul-m c = search needs
@@ -26,7 +26,7 @@ cast-b : tie.Need-cast-b Inv-loop μ-loop
 cast-b c = search needs
 
 array-read-mark : tie.Need-array-read-mark Inv-loop μ-loop
-array-read-mark c = omega (arith, let l = c .before .before .before .loop in backing-most _ _ _ (l .i) (l .free) (l .charge) (l .touched) (l .marks) (l .inv) (c .before .before .before .before .pre) (omega arith))
+array-read-mark c = omega (arith, let l = c .before .before .before .loop in backing-most _ (l .i) (l .free) (l .charge) (l .marks) (l .inv) (c .before .before .before .before .pre) (omega arith))
 
 free-after-requires : tie.Need-free-after-requires Inv-loop μ-loop
 free-after-requires c κs = search needs
@@ -37,14 +37,8 @@ pages-if-requires c κs = search needs
 add-charge : tie.Need-add-charge Inv-loop μ-loop
 add-charge c = search needs
 
-is-touched-requires : tie.Need-is-touched-requires Inv-loop μ-loop
-is-touched-requires c κs = search needs
-
-either-requires : tie.Need-either-requires Inv-loop μ-loop
-either-requires c κs = search needs
-
 array-write-marks : tie.Need-array-write-marks Inv-loop μ-loop
-array-write-marks c = omega (arith, let l = c .before .before .before .before .before .before .before .loop in backing-most _ _ _ (l .i) (l .free) (l .charge) (l .touched) (l .marks) (l .inv) (c .before .before .before .before .before .before .before .before .pre) (omega arith))
+array-write-marks c = omega (arith, let l = c .before .before .before .before .before .loop in backing-most _ (l .i) (l .free) (l .charge) (l .marks) (l .inv) (c .before .before .before .before .before .before .pre) (omega arith))
 
 add-i : tie.Need-add-i Inv-loop μ-loop
 add-i c = search needs
@@ -53,7 +47,7 @@ loop-less : tie.Need-loop-less Inv-loop μ-loop
 loop-less c = search needs
 
 loop-again : tie.Need-loop-again Inv-loop μ-loop
-loop-again c = let l = c .before .before .before .before .before .before .before .loop in seen-on _ _ _ (l .i) (l .free) (l .charge) (l .touched) (l .marks) (l .inv) (c .before .before .before .before .before .before .before .before .pre) (omega arith) _ _ _ _ _ (c .before .before .before .free-after .ensures) (c .before .before .pages-if .ensures .0) (c .before .before .pages-if .ensures .1) (c .before .is-touched .ensures) (c .either .ensures) (omega arith)
+loop-again c = let l = c .before .before .before .before .before .loop in seen-on _ (l .i) (l .free) (l .charge) (l .marks) (l .inv) (c .before .before .before .before .before .before .pre) (omega arith) _ _ _ (c .before .free-after .ensures) (c .pages-if .ensures .0) (c .pages-if .ensures .1) (omega arith)
 
 place-found-requires : tie.Need-place-found-requires Inv-loop μ-loop
 place-found-requires c κs = search needs
@@ -62,7 +56,7 @@ lowest-unmarked-requires : tie.Need-lowest-unmarked-requires Inv-loop μ-loop
 lowest-unmarked-requires c κs = search needs
 
 returns : tie.Need-returns Inv-loop μ-loop
-returns c = let l = c .before .before .before .loop in seen-end _ _ _ (l .i) (l .free) (l .charge) (l .touched) (l .marks) (l .inv) (omega arith) _ _ (c .before .place-found .ensures) (c .lowest-unmarked .ensures)
+returns c = let l = c .before .before .before .loop in seen-end _ (l .i) (l .free) (l .charge) (l .marks) (l .inv) (omega arith) _ _ (c .before .place-found .ensures) (c .lowest-unmarked .ensures)
 
 pub survey-of-spec : {M : Type 1} → statement M
 survey-of-spec =
@@ -78,8 +72,6 @@ survey-of-spec =
     free-after-requires
     pages-if-requires
     add-charge
-    is-touched-requires
-    either-requires
     array-write-marks
     add-i
     loop-less
