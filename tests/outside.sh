@@ -3,12 +3,13 @@
 #
 #   tests/outside.sh differential                      random calls against the model: the fixed set of sequences, every check reached
 #   tests/outside.sh differential --calls 10000000     a long run, with a line of progress; --seed S makes other sequences
+#   tests/outside.sh mutations                         whether the fixed set notices each of many slips in the model
 #   tests/outside.sh benchmark                         what a call costs, as markdown; --quick for a first look, --limit 2.0 to fail above that ratio
 #   tests/outside.sh test                              the crate's own tests
 set -euo pipefail
 cd "$(dirname "$0")/.."
 export PATH="/opt/rattle/bin:$PATH"
-[ $# -ge 1 ] || { sed -n '2,8s/^# \{0,1\}//p' "$0"; exit 2; }
+[ $# -ge 1 ] || { sed -n '2,9s/^# \{0,1\}//p' "$0"; exit 2; }
 program=$1
 shift
 
@@ -19,10 +20,10 @@ if [ ! -f "$archive" ] || [ -n "$(find crates crates.txt -newer "$archive" \( -n
   rt staticlib boundary >target/archive.say 2>&1 || { tail -n 20 target/archive.say; exit 1; }
 fi
 
+[ "$program" != mutations ] || exec python3 tests/mutations.py "$@"
+
 # Loops at a multiple of 64 bytes: where a short loop lies otherwise decides up to half of its time, and the plain program that is measured has one.
 export CARGO_TARGET_DIR="$PWD/target/outside" IOMMUFD_LIB="$PWD/target/staticlib" RUSTFLAGS="-D warnings -C llvm-args=-align-loops=64"
-if [ "$program" = test ]; then
-  exec cargo test --quiet --offline --manifest-path tests/outside/Cargo.toml "$@"
-fi
+[ "$program" != test ] || exec cargo test --quiet --offline --manifest-path tests/outside/Cargo.toml "$@"
 cargo build --quiet --release --offline --manifest-path tests/outside/Cargo.toml
 exec "target/outside/release/$program" "$@"
