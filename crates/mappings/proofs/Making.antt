@@ -11,7 +11,6 @@ use Rattle.lists.specs.Tests.{onlyIf}
 use Rattle.lists.specs.Search.{any}
 use Rattle.lists.specs.Below.{lowest-some}
 use Rattle.lists.specs.Checks.{when, first}
-use Rattle.ranges.specs.declared.Range.{Range}
 use Rattle.ranges.specs.Ranges.{passes}
 use Rattle.rangelists.specs.declared.Found.{Found}
 use Rattle.rangelists.specs.declared.Found.the-variants.{Nothing, At}

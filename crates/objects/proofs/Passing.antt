@@ -1,7 +1,7 @@
 -- One pass over the object records: what was seen before place i and what is left from i on answer for the whole.
 use Prim.Native.Nat.{ℕ, _+_, _≤_, _<_, max}
 use mathlib.Core.Path.{_≡_, refl, sym, ap, _∙_}
-use mathlib.Core.Bool.{Bool, true, false, _||_, cond}
+use mathlib.Core.Bool.{Bool, true, false, _||_}
 use mathlib.Core.List.{List, map}
 use native.Mathlib.Omega.{arith}
 use lib.ListN.{length, getD, set, drop, replicate, length-set, length-map}
@@ -24,7 +24,7 @@ use Rattle.raw.specs.Laws.{decoded-at}
 use Rattle.objects.specs.declared.Pass.{Pass}
 use Rattle.objects.specs.Pages.{slotOf, askOf}
 use Rattle.objects.specs.Judged.{namedPlace, fitsBy}
-use Rattle.objects.specs.Passed.{Told, Passed, freeAfter}
+use Rattle.objects.specs.Passed.{Passed, freeAfter}
 use Rattle.objects.proofs.Judging.{okLeft, ok-start, ok-failed, ok-on, ok-end}
 use Rattle.objects.proofs.Paging.{Kept, kept-start, kept-on, kept-end}
 

@@ -2,7 +2,6 @@
 use native.Mathlib.Omega.{arith}
 use borrow.Author.Needs.{needs}
 use Prim.Native.Nat.{_-_, _≤_}
-use mathlib.Core.Path.{_≡_}
 use borrow.Author.Tests.{not-true, not-false}
 use Rattle.lists.specs.Update.{length-mapped}
 use Rattle.objects.proofs.Passing.{Passing, passing-start, passing-failed, passing-on, passing-end}
