@@ -3,6 +3,7 @@
 #
 #   archives/build.sh [ARCH...]           x86_64, aarch64, riscv64; all three if none is named
 #   archives/build.sh --twice [ARCH...]   twice: fails where the builds differ, or where the module is not the one of the kit's own archive
+#   archives/build.sh --ready [ARCH...]   only those that are missing or older than a source
 #
 # It writes target/archives/ARCH/libiommufd.a and names each with its SHA-256. The kit's own archive stays in target/staticlib/libboundary.a: the same module as other
 # machine code, with a red zone and vector registers. No kernel may link that one.
@@ -16,15 +17,30 @@ set -euo pipefail
 cd "$(dirname "$0")/.."
 export PATH="/opt/rattle/bin:$PATH"
 
-usage() { sed -n '2,6s/^# \{0,1\}//p' "$0"; exit 2; }
+usage() { sed -n '2,7s/^# \{0,1\}//p' "$0"; exit 2; }
 fail() { echo "archives: $*" >&2; exit 1; }
 
-builds=1
-[ "${1:-}" != --twice ] || { builds=2; shift; }
+builds=1 ready=''
+case ${1:-} in
+--twice) builds=2; shift ;;
+--ready) ready=1; shift ;;
+esac
 [ $# -gt 0 ] || set -- x86_64 aarch64 riscv64
 for arch in "$@"; do
   case $arch in x86_64 | aarch64 | riscv64) ;; *) usage ;; esac
 done
+
+is_old() { # ARCH
+  local at=target/archives/$1/libiommufd.a
+  [ ! -f "$at" ] || [ -n "$(find crates crates.txt include archives -newer "$at" \( -name '*.rt' -o -name crates.txt -o -name '*.h' -o -name build.sh \) -print -quit)" ]
+}
+
+if [ -n "$ready" ]; then
+  old=()
+  for arch in "$@"; do ! is_old "$arch" || old+=("$arch"); done
+  [ ${#old[@]} -gt 0 ] || exit 0
+  set -- "${old[@]}"
+fi
 
 kit=$(dirname "$(dirname "$(readlink -f "$(command -v rt)")")")
 tools=$kit/on/$(uname -m)/toolchain
