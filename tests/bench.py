@@ -117,6 +117,15 @@ def bytes_of(plan):
     return b''.join(parts_of(plan))
 
 
+def long_plan(size, commands):
+    """The bytes of a plan, so many: unknown commands without bytes, and the last one's area fills what is left."""
+    last = (0, b'', bytes(size - 24 - 12 * commands))
+    return bytes_of(Plan(0, 0, (), (), ((0, b'', b''),) * (commands - 1) + (last,)))
+
+
+MANY = (MOST - 24) // 12                                               # commands, as many as fit
+
+
 # ---- running
 def set_up(plan):
     """The table before the first command, or Refused."""

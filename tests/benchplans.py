@@ -15,7 +15,7 @@ from collections import Counter
 
 import bench
 import model
-from bench import BAD, CALLS, HEADER, MOST, NoPlan, Plan, bytes_of, from_root, promised, store
+from bench import BAD, CALLS, HEADER, MANY, MOST, NoPlan, Plan, bytes_of, from_root, long_plan, promised, store
 from model import TOP
 from randomplans import Dice, SIZES, STRANGE, bytes_for, ends_of_parts, recounted, some_case
 
@@ -633,15 +633,9 @@ while sum(len(p) + 4 for p in plans) < 58000:
 
 
 # ==== as long as a plan may be, with one long area or with as many commands as fit, and one byte more
-def long(size, commands):
-    """So many bytes: commands without bytes, and the last one's area fills what is left."""
-    last = (0, b'', bytes(size - 24 - 12 * commands))
-    return bytes_of(Plan(0, 0, (), (), ((0, b'', b''),) * (commands - 1) + (last,)))
-
-
-keep_good(long(MOST, 1), [(-25, 0)])
-keep_good(long(MOST, (MOST - 24) // 12), [(-25, 0)] * ((MOST - 24) // 12))
-keep_bad(long(MOST + 1, 1))
+keep_good(long_plan(MOST, 1), [(-25, 0)])
+keep_good(long_plan(MOST, MANY), [(-25, 0)] * MANY)
+keep_bad(long_plan(MOST + 1, 1))
 
 
 # ==== every check of every command that a plan can reach

@@ -13,7 +13,7 @@ import sys
 from collections import Counter, namedtuple
 
 import bench
-from bench import BAD, EMPTY, MOST, Plan, bytes_of, from_root
+from bench import BAD, EMPTY, MANY, MOST, Plan, bytes_of, from_root
 from model import ATTACHED, LOOSE, Refused, SPACE, TOP, faults, live, object_of
 
 sys.path.insert(0, from_root('plans'))
@@ -310,7 +310,7 @@ def boundary_cases(dice):
     yield Case(plan, 0, *longer(bytes(2 * MOST)))                      # a whole plan, and far too much behind it
     for n in ends_of_parts(plan):
         yield Case(plan, 0, *cut(n))
-    nothing = tuple((0x3B7F, b'', b'') for _ in range((MOST - 24) // 12))
+    nothing = tuple((0x3B7F, b'', b'') for _ in range(MANY))
     yield Case(EMPTY._replace(commands=nothing), 0, *WHOLE)            # as many commands as fit: 5,459
     yield Case(EMPTY._replace(commands=nothing + nothing[:1]), 0, *WHOLE)
     yield Case(EMPTY, 0, *WHOLE)
@@ -325,14 +325,21 @@ def bytes_for(case):
 
 
 # ---- comparing
+STUCK = 'no end within %d seconds\n' % WAIT
+
+
+def said_by(written, status):
+    """What a program wrote, and how it ended if not by itself."""
+    return written.decode(errors='replace') + ('ended by signal %d\n' % -status if status < 0 else '')
+
+
 def answer(program, data):
-    """What the program writes, or how it ended if not by itself."""
+    """What the program writes for these bytes."""
     try:
         ended = subprocess.run([program], input=data, stdout=subprocess.PIPE, stderr=subprocess.DEVNULL, timeout=WAIT)
     except subprocess.TimeoutExpired:
-        return 'no end within %d seconds\n' % WAIT
-    said = ended.stdout.decode(errors='replace')
-    return said + ('ended by signal %d\n' % -ended.returncode if ended.returncode < 0 else '')
+        return STUCK
+    return said_by(ended.stdout, ended.returncode)
 
 
 def differs(program, case):
@@ -399,26 +406,31 @@ def counted(said, results):
         results[int(line.split()[2])] += 1
 
 
-def given_arguments():
-    parser = argparse.ArgumentParser(description='Runs random plans by the bench program and by its model, and compares what they write.')
+def given_arguments(does, **numbers):
+    """The program, and numbers with what they are if not given. Without a program the script ends."""
+    parser = argparse.ArgumentParser(description=does)
     parser.add_argument('--program', default=from_root('target', 'bin', 'bench'), help='the built program (target/bin/bench)')
-    parser.add_argument('--seed', type=int, default=1)
-    parser.add_argument('--plans', type=int, default=3000)
-    return parser.parse_args()
+    for name, number in numbers.items():
+        parser.add_argument('--' + name, type=int, default=number)
+    given = parser.parse_args()
+    if not os.access(given.program, os.X_OK):
+        print('%s: there is no program %s; rt check bench builds it' % (parser.prog, os.path.relpath(given.program)))
+        sys.exit(2)
+    given.program = os.path.abspath(given.program)
+    return given
 
 
 def main():
-    given = given_arguments()
-    if not os.access(given.program, os.X_OK):
-        print('randomplans.py: there is no program %s; rt check bench builds it' % os.path.relpath(given.program))
-        return 2
-    program, results = os.path.abspath(given.program), Counter()
+    given = given_arguments('Runs random plans by the bench program and by its model, and compares what they write.', seed=1, plans=3000)
+    results = Counter()
     for k, case in enumerate(cases(given.seed, given.plans)):
-        if differs(program, case):
+        data = bytes_for(case)
+        said = bench.run(data)
+        if answer(given.program, data) != said:
             print('randomplans.py: plan %d of seed %d differs' % (k, given.seed))
-            report(program, case)
+            report(given.program, case)
             return 1
-        counted(bench.run(bytes_for(case)), results)
+        counted(said, results)
     bad = results.pop('bad plan', 0)
     print('randomplans.py: %d plans alike, %d of them bad plans, %d commands' % (given.plans, bad, sum(results.values())))
     print('results  ' + ' '.join('%d:%d' % p for p in sorted(results.items(), reverse=True)))
