@@ -11,7 +11,7 @@ import sys
 from collections import namedtuple
 
 from model import (RELEASED, Refused, Table, UNMAPPED, charge, model_alloc, model_allow, model_attach, model_bind, model_copy, model_destroy,
-                   model_map, model_ranges, model_unmap, need)
+                   model_map, model_ranges, model_unknown, model_unmap, need)
 
 ROOT = os.path.join(os.path.dirname(os.path.abspath(__file__)), '..')
 MOST = 65536
@@ -141,7 +141,7 @@ def set_up(plan):
 
 
 def unknown(t, cmd, area):
-    raise Refused(25, 'unknown request')
+    return 0, model_unknown(t, cmd)
 
 
 def ranges(t, cmd, area):

@@ -9,6 +9,7 @@ import struct
 from model import READ, SPACE, TOP, UNMAPPED, WRITE, faults, live, model_copy, model_map, model_unmap
 from atrandom import (chance, damaged, id_of, one_of, pick, random_alloc, random_allow, random_attach, random_bind, random_destroy, random_detach,
                       random_mapping, random_object, random_reach, some_address, some_ranges)
+from order import pinned
 from runs import (MSI, alloc, allow, attach, badly_opened, bind, broken, charged, checks, copy, destroy, detach, device, errnos_are, fresh, good, limit,
                   map_, mapping, now, page, reach, store, stored, told_counts, unmap)
 
@@ -59,6 +60,7 @@ copy(cmd=with_tail + b'\x10', want=-7)
 copy(cmd=struct.pack('<IIIIQQQ', 40, 4, 1, 1, 1, TOP, 2) + b'\xff' * 9, want=0, gives=4)
 unmap(cmd=struct.pack('<IIQQ', 32, 1, 1, 3) + bytes(8) + b'\xff', want=0, gives=3)
 unmap(cmd=struct.pack('<IIQQ', 32, 1, 0, 1) + bytes(7) + b'\x01', want=-7)
+unmap(cmd=struct.pack('<IIQQ', 32, 1, TOP, 2) + bytes(7) + b'\x01', want=-7)
 unmap(cmd=struct.pack('<IIQQ', 24, 1, 0, TOP) + b'\xff' * 8, want=0, gives=2)
 
 # ==== K4 to K7, K10 to K12, and the bench program's plan
@@ -120,6 +122,18 @@ stairs(copy, dict(flags=9, target=9, source=8, length=MOST + 1, origin=TOP, at=T
        ({}, -95), (dict(flags=1), -22), (dict(flags=3), -22), (dict(length=0), -22), (dict(length=0x801), -75), (dict(origin=0x30000), -75),
        (dict(at=0x10001), -2), (dict(target=1), -2), (dict(source=1), -2), (dict(length=PAGE), -1), (dict(flags=5), -22), (dict(at=0x10000), -22),
        (dict(at=0x31000), -17), (dict(at=0x20000), -12))
+for call in (map_, copy):
+    call(flags=12, length=0, want=-95)                                 # 95 before 22
+    call(flags=1, at=TOP, length=2, want=-22)                          # 22 before 75
+map_(field=1, length=0, want=-95)
+copy(flags=0, origin=TOP, length=2, want=-22)
+map_(at=0x30001, length=0xFFF, want=-22)                               # 22 before 17: the address, the end
+map_(at=0x30000, length=0x801, want=-22)
+map_(at=TOP, length=2, want=-75)                                       # 75 before 22
+map_(memory=TOP, length=0x801, want=-75)
+copy(source=8, origin=TOP, length=2, want=-75)                         # 75 before 2
+copy(origin=0x30000, length=0x801, want=-2)                            # 2 before 22
+copy(9, origin=0x30000, rights=WRITE, want=-2)                         # 2 before 1
 allow(1, [(0x30000, 0x3FFFF)], want=0)
 stairs(map_, dict(flags=8, field=0, space=9, length=MOST + 1, memory=TOP, at=TOP),
        ({}, -95), (dict(flags=0), -22), (dict(flags=4), -22), (dict(length=0x801), -75), (dict(memory=0), -2), (dict(space=1), -22),
@@ -136,6 +150,7 @@ map_(length=PAGE, want=-12)                                            # a candi
 copy(origin=0x30000, want=-12)
 unmap(1, 0x35000, PAGE, want=0, gives=PAGE)                            # one record, one page
 map_(length=2 * PAGE, want=-12)                                        # the charge would pass the limit
+map_(at=0x30000, length=2 * PAGE, want=-17)                            # 17 before that
 map_(at=0x20000, memory=1, want=-12)
 copy(origin=0x30000, at=0x20000, want=0)                               # COPY asks for no charge
 assert now().mappings[5] == page(1, 0x20000, 1)
@@ -291,6 +306,8 @@ map_(length=0x2000, want=-28)
 map_(want=0, gives=0)
 map_(want=-28)
 with_device(4096, [(TOP - 4095, TOP), (0, 0xFFF), (0x3000, TOP - 8192)])
+map_(at=TOP - 4095, length=0x2000, want=-75)                           # 75 before reserved
+map_(at=0, memory=TOP, want=-75)
 map_(length=0x3000, want=-28)
 map_(length=0x2000, want=0, gives=0x1000)
 map_(want=0, gives=TOP - 8191)
@@ -397,6 +414,27 @@ reach(4, 0x2000, PAGE, write=True, want=0, at=0)
 copy(1, 2, origin=0, want=0, gives=0)
 reach(4, 0, PAGE, write=True, want=-1)
 
+# ==== reach asks the mapping's own rights, not the founder's
+spaces(2)
+for i in (1, 2):
+    bind(1, want=2 + i)
+    attach(2 + i, i, want=0)
+map_(1, memory=0x5000, rights=BOTH, want=0, gives=0)
+copy(1, 1, want=0, gives=PAGE)                                         # read-only, in the same space and in another
+copy(2, 1, want=0, gives=0)
+for i, at in ((3, PAGE), (4, 0)):
+    reach(i, at + 8, 8, write=True, want=-1)
+    reach(i, at + 8, 8, want=0, at=0x5008)
+reach(3, 8, 8, write=True, want=0, at=0x5008)                          # the original
+reach(3, 8, 8, want=0, at=0x5008)
+copy(2, 1, rights=WRITE, want=0, gives=PAGE)                           # the other way round: a right to write, and none to read
+map_(1, memory=0x7000, rights=WRITE, want=0, gives=2 * PAGE)
+for i, at, memory in ((4, PAGE, 0x5000), (3, 2 * PAGE, 0x7000)):
+    reach(i, at + 8, 8, want=-1)
+    reach(i, at + 8, 8, write=True, want=0, at=memory + 8)
+copy(2, 1, origin=2 * PAGE, want=0, gives=2 * PAGE)                    # a copy may read where its founder may not: C4
+reach(4, 2 * PAGE + 8, 8, want=0, at=0x7008)
+
 # ==== COPY: places and charge, C7, C8, C10
 spaces(2, 2)
 map_(1, rights=BOTH, want=0)
@@ -424,6 +462,7 @@ map_(1, length=0x800, want=0, gives=0x400)
 bind(4096, [(0x5000, 0x5FFF)], want=3)
 attach(3, 2, want=0)
 copy(2, 1, 0x800, 0x400, want=-22)                                     # the target's alignment, not the source's
+copy(2, 1, 0x800, 0x400, rights=WRITE, want=-1)                        # 1 before that
 copy(2, 1, 0x800, 0x400, at=0x1000, want=-22)
 copy(2, 1, 0x800, 0x400, at=0x1800, want=-22)
 copy(2, 1, 0x800, 0x400, at=0, want=-22)
@@ -435,11 +474,17 @@ copy(2, 1, PAGE, 0x10000, at=0x1800, want=-22)
 copy(2, 1, PAGE, 0x10000, at=0x4800, want=-22)
 allow(1, [(0, 0)], want=0)                                             # the target's list, not the source's
 copy(2, 1, PAGE, 0x10000, want=0, gives=0)
+copy(2, 1, 0x800, 0x400, at=0x800, want=-22)                           # 22 before 17: the address, the end
+copy(2, 1, 0x800, 0x400, at=0, want=-22)
 allow(2, [(0x4800, 0x4FFF), (0x2801, 0x4000), (0x6000, 0x6FFF)], want=0)
 copy(2, 1, PAGE, 0x10000, want=0, gives=0x3000)
 copy(2, 1, PAGE, 0x10000, want=0, gives=0x6000)
 copy(2, 1, PAGE, 0x10000, want=-28)
+copy(2, 1, 0x800, 0x400, want=-22)                                     # 22 before 28
 copy(2, 1, PAGE, 0x10000, at=0x6000, want=-17)
+map_(1, at=0x20000, length=0x2000, want=0)
+copy(2, 1, 0x2000, 0x20000, at=0x5000, want=-22)                       # reserved before 17
+unmap(1, 0x20000, 0x2000, want=0)
 copy(2, 1, PAGE, 0x10000, at=0x4000, want=0)
 copy(1, 2, PAGE, 0, want=-28)
 copy(1, 2, PAGE, 0, at=0x11000, want=0)
@@ -480,6 +525,7 @@ unmap(1, 0, TOP - 1, want=-2)
 unmap(1, 0, TOP, want=0, gives=1)                                      # U1: all
 map_(1, at=0, length=2, want=0)
 map_(1, at=TOP - 1, length=2, want=0)
+unmap(1, TOP, 2, want=-75)                                             # 75 before 2: it would be cut
 unmap(1, 1, TOP, want=-2)
 unmap(1, 0, TOP - 1, want=0, gives=2)
 map_(1, at=TOP - 2, length=1, want=0)
@@ -619,7 +665,9 @@ for call, named in CHECKS.items():
     assert set(seen) == set(named.items()) and min(seen.values()) >= 2, (call, seen, set(named.items()) ^ set(seen))
 NAMES = {'map': model_map, 'copy': model_copy, 'unmap': model_unmap}
 errnos_are({name: set(CHECKS[call].values()) for name, call in NAMES.items()})
+ordered = pinned('mapvectors.py', NAMES)
 store('mapvectors')
 told_counts(NAMES)
 for name, call in NAMES.items():
     print(name + ': ' + '; '.join('%s %d' % (check, checks[call, check, errno]) for check, errno in CHECKS[call].items()))
+print('\n'.join(ordered))

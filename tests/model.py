@@ -216,8 +216,12 @@ class Refused(Exception):
         self.errno, self.check = errno, check
 
 
-def need(holds, errno, check=''):
-    """A check, by its name: the answer is the errno if it does not hold."""
+def need(holds, errno, check):
+    """A check, by its name: the answer is the errno if it does not hold.
+
+    tests/order.py puts another in its place, which notes the check and goes on. So a call computes as much as it can before it needs what a check
+    has shown, and each check fails by its own fault and not by that of an earlier one.
+    """
     if not holds:
         raise Refused(errno, check)
 
@@ -250,62 +254,72 @@ def padded(numbers, room):
 
 def new_id(t):
     free = [i for i in range(1, 33) if object_of(t, i).kind == FREE]
-    need(free, 12)
+    need(free, 12, 'no record')
     return min(free)
 
 
-def opened(cmd, known):
+def has_size(cmd):
     need(len(cmd) >= 4, 14, 'no size field')
+
+
+def opened(cmd, known):
+    has_size(cmd)
     need(u32(cmd, 0) >= known, 22, 'size below')
     need(u32(cmd, 0) <= len(cmd), 14, 'size above')
     need(not any(cmd[known:u32(cmd, 0)]), 7, 'tail')
 
 
+def model_unknown(t, cmd):
+    """A request that is none of the seven."""
+    need(False, 25, 'unknown request')
+    has_size(cmd)
+
+
 def model_bind(t, bitmap, count, starts, lasts):
     o = Object(LOOSE, 0, bitmap, count, padded(starts[:count], 4), padded(lasts[:count], 4), 0, (0,) * 8, (0,) * 8)
-    need(bitmap != 0, 22)
-    need(lowest_bit(bitmap) <= 4096, 22)
-    need(count <= 4, 22)
-    need(all(reserved(o)), 22)
+    need(bitmap != 0, 22, 'bitmap 0')
+    need(bitmap == 0 or lowest_bit(bitmap) <= 4096, 22, 'lowest bit above 4,096')
+    need(count <= 4, 22, 'over 4 ranges')
+    need(all(reserved(o)), 22, 'start above last')
     i = new_id(t)
     return i, put_object(t, i, o)
 
 
 def model_attach(t, device, space):
-    need(is_device(t, device), 2)
-    need(is_space(t, space), 2)
+    need(is_device(t, device), 2, 'no device')
+    need(is_space(t, space), 2, 'no space')
     o = object_of(t, device)
-    need(o.kind == LOOSE, 16)
+    need(o.kind != ATTACHED, 16, 'already attached')
     taken = [covered(m) for m in mappings_of(t, space)] + allowed(object_of(t, space))
-    need(not any(touched(r, taken) for r in reserved(o)), 98)
+    need(not any(touched(r, taken) for r in reserved(o)), 98, 'reserved range touched')
     after = put_object(t, device, o._replace(kind=ATTACHED, home=space))
-    need(all(aligned(m, alignment_of(after, space)) for m in mappings_of(t, space)), 98)
+    need(all(aligned(m, alignment_of(after, space)) for m in mappings_of(t, space)), 98, 'mapping misfits')
     return 0, after
 
 
 def model_detach(t, device):
-    need(is_device(t, device), 2)
+    need(is_device(t, device), 2, 'no device')
     o = object_of(t, device)
-    need(o.kind == ATTACHED, 22)
+    need(o.kind == ATTACHED, 22, 'not attached')
     return 0, put_object(t, device, o._replace(kind=LOOSE, home=0))
 
 
 def model_reach(t, device, address, length, write):
-    need(is_device(t, device), 2)
-    need(object_of(t, device).kind == ATTACHED, 22)
-    need(length != 0, 22)
-    need(address + length - 1 <= TOP, 75)
+    need(is_device(t, device), 2, 'no device')
+    need(object_of(t, device).kind == ATTACHED, 22, 'not attached')
+    need(length != 0, 22, 'length 0')
+    need(address + length - 1 <= TOP, 75, 'past the top')
     asked = run(address, length)
     around = [m for m in mappings_of(t, object_of(t, device).home) if within(asked, covered(m))]
-    need(around, 14)
+    need(around, 14, 'not inside one mapping')
     m, = around
-    need(m.rights in ((1, 3) if write else (2, 3)), 1)
+    need(m.rights in ((1, 3) if write else (2, 3)), 1, 'right missing')
     return m.memory + (address - m.address)
 
 
 def model_alloc(t, cmd):
     opened(cmd, 12)
-    need(u32(cmd, 4) == 0, 95)
+    need(u32(cmd, 4) == 0, 95, 'flags')
     i = new_id(t)
     return put_object(t, i, NEW_SPACE), cmd[:8] + struct.pack('<I', i) + cmd[12:]
 
@@ -314,9 +328,9 @@ def model_destroy(t, cmd):
     opened(cmd, 8)
     i = u32(cmd, 4)
     o = object_of(t, i)
-    need(o.kind != FREE, 2)
-    need(o.kind != ATTACHED, 16)
-    need(o.kind != SPACE or not devices_of(t, i), 16)
+    need(o.kind != FREE, 2, 'no object')
+    need(o.kind != ATTACHED, 16, 'attached device')
+    need(o.kind != SPACE or not devices_of(t, i), 16, 'space with a device')
     t = put_object(t, i, RELEASED)
     if o.kind == SPACE:
         t = without(t, mappings_of(t, i))
@@ -326,16 +340,17 @@ def model_destroy(t, cmd):
 def model_allow(t, cmd, area):
     opened(cmd, 24)
     space, count = u32(cmd, 4), u32(cmd, 8)
-    need(u32(cmd, 12) == 0, 95)
-    need(is_space(t, space), 2)
-    need(count <= 8, 12)
-    need(len(area) >= 16 * count, 14)
-    lows = [u64(area, 16 * k) for k in range(count)]
-    highs = [u64(area, 16 * k + 8) for k in range(count)]
+    need(u32(cmd, 12) == 0, 95, 'reserved field')
+    need(is_space(t, space), 2, 'no space')
+    need(count <= 8, 12, 'over 8 ranges')
+    need(len(area) >= 16 * count, 14, 'area short')
+    given = area[:16 * count]
+    lows = [u64(given, at) for at in range(0, len(given), 16)]
+    highs = [u64(given, at + 8) for at in range(0, len(given), 16)]
     listed = [addresses(*r) for r in zip(lows, highs)]
-    need(all(listed), 22)
-    need(not overlapping(listed), 22)
-    need(not any(touched(p, reserved_of(t, space)) for p in listed), 98)
+    need(all(listed), 22, 'start above last')
+    need(not overlapping(listed), 22, 'ranges overlap')
+    need(not any(touched(p, reserved_of(t, space)) for p in listed), 98, 'touches reserved')
     return put_object(t, space, object_of(t, space)._replace(size=count, lows=padded(lows, 8), highs=padded(highs, 8)))
 
 
@@ -348,9 +363,9 @@ def not_reserved(taken):
 def model_ranges(t, cmd, area):
     opened(cmd, 32)
     space, count = u32(cmd, 4), u32(cmd, 8)
-    need(u32(cmd, 12) == 0, 95)
-    need(is_space(t, space), 2)
-    need(len(area) >= 16 * count, 14)
+    need(u32(cmd, 12) == 0, 95, 'reserved field')
+    need(is_space(t, space), 2, 'no space')
+    need(len(area) >= 16 * count, 14, 'area short')
     full = not_reserved(reserved_of(t, space))
     told = b''.join(struct.pack('<QQ', r[0], r[-1]) for r in full[:count])
     cmd = cmd[:8] + struct.pack('<I', len(full)) + cmd[12:24] + struct.pack('<Q', alignment_of(t, space)) + cmd[32:]
@@ -418,7 +433,8 @@ def model_map(t, cmd):
     need(write or read, 22, 'no right')
     good_length(length)
     need(memory + length - 1 <= TOP, 75, 'memory past the top')
-    need(not fixed or address + length - 1 <= TOP, 75, 'address past the top')
+    if fixed:
+        need(address + length - 1 <= TOP, 75, 'address past the top')
     need(is_space(t, space), 2, 'no space')
     address = placed(t, space, fixed, length, address)
     place = free_record(t)
@@ -435,15 +451,16 @@ def model_copy(t, cmd):
     need(write or read, 22, 'no right')
     good_length(length)
     need(origin + length - 1 <= TOP, 75, 'source past the top')
-    need(not fixed or address + length - 1 <= TOP, 75, 'target past the top')
+    if fixed:
+        need(address + length - 1 <= TOP, 75, 'target past the top')
     need(is_space(t, target), 2, 'no target space')
     need(is_space(t, source), 2, 'no source space')
     found = [m for m in mappings_of(t, source) if (m.address, m.length) == (origin, length)]
     need(found, 2, 'no source')
-    m, = found
-    need(not write or m.founder == 1, 1, 'founder not writeable')
+    need(not write or all(m.founder == 1 for m in found), 1, 'founder not writeable')
     address = placed(t, target, fixed, length, address)
     place = free_record(t)
+    m, = found
     m = m._replace(space=target, address=address, rights=WRITE * write + READ * read)
     return put_mapping(t, place, m), cmd[:24] + struct.pack('<Q', address) + cmd[32:]
 

@@ -10,10 +10,11 @@ from collections import Counter
 
 from model import (ATTACHED, LOOSE, Mapping, Object, READ, RELEASED, Refused, TOP, Table, UNMAPPED, alignment_of, candidate, faults, model_alloc,
                    model_allow, model_attach, model_bind, model_copy, model_destroy, model_detach, model_map, model_ranges, model_reach,
-                   model_unmap, need, padded, put_mapping, put_object, u32, u64)
+                   model_unknown, model_unmap, need, padded, put_mapping, put_object, u32, u64)
 
 records, lines = [], []
 errnos, checks, broken = Counter(), Counter(), Counter()               # how often a call gave an errno, a check refused, a clause was broken
+called = []                                                            # each call of the model, with the table and what else it was given
 table = Table(0, (RELEASED,) * 32, (UNMAPPED,) * 128)
 
 
@@ -53,13 +54,14 @@ def record(operation, body, parts, after):
     edit = operation in (1, 10, 11, 12)
     assert edit or faults(table) or not faults(after)                  # no call makes a bad table out of a good one
     table = after
-    assert operation not in (6, 13, 14, 15) or len(body) <= 64         # the room that the program has for a command that is changed
+    assert operation not in (6, 13, 14, 15, 16) or len(body) <= 64     # the room that the program has for a command that is changed
     records.append(struct.pack('<II', operation, len(body)) + body)
     lines.append(' '.join([str(p) for p in parts] + ['0' if faults(table) else '1', sums(table)]))
 
 
 def outcome(call, *given):
     """What a call on the table gives: its errno, and its answer where that is 0. A bad table is 117 before all."""
+    called.append((call, table, given))
     try:
         need(not faults(table), 117, 'bad table')
         return 0, call(table, *given)
@@ -202,6 +204,12 @@ def unmap(space=1, address=0, length=TOP, cmd=None, want=None, gives=None):
     record(15, cmd, ['unmap', result, lent(reply)], after)
 
 
+def other(cmd=b'', want=None):
+    """A request that is none of the seven."""
+    errno, _ = outcome(model_unknown, cmd)
+    record(16, cmd, ['other', told('other', errno, 0, want), lent(cmd)], table)
+
+
 def mapping(place, m=UNMAPPED, **changed):
     """The mapping record is stored as it is."""
     m = m._replace(**changed)
@@ -284,8 +292,10 @@ def badly_opened(known, call):
     call(cmd=sized(0, 4), want=-22)                                    # O1: size before bytes
     call(cmd=sized(known - 1, known), want=-22)
     call(cmd=sized(known - 1, known, 1), want=-22)
+    call(cmd=sized(known - 1, 4), want=-22)                            # O1: though fewer are lent
     call(cmd=sized(known, known - 1), want=-14)
     call(cmd=sized(known + 1, known), want=-14)
+    call(cmd=sized(known + 8, known) + b'\x01', want=-14)              # before the tail, of which one byte is lent
     for size in (2**31, 2**32 - known, 2**32 - 4, 2**32 - 1):          # O7
         call(cmd=sized(size, known + 8), want=-14)
     call(cmd=sized(known + 8, known) + bytes(7) + b'\x80', want=-7)    # O5: before any field

@@ -6,11 +6,13 @@
 """
 import struct
 
-from model import ATTACHED, NEW_SPACE, RELEASED, TOP, UNMAPPED, object_of
+from model import (ATTACHED, NEW_SPACE, RELEASED, TOP, UNMAPPED, model_alloc, model_allow, model_attach, model_bind, model_destroy, model_detach,
+                   model_ranges, model_reach, model_unknown, object_of)
 from atrandom import (one_of, random_alloc, random_allow, random_attach, random_bind, random_destroy, random_detach, random_mapping, random_object,
                       random_ranges, random_reach)
+from order import pinned
 from runs import (ALL, MSI, alloc, allow, attach, bad, badly_opened, bind, call_in_turn, destroy, detach, device, errnos_are, fresh, good, limit,
-                  listed, mapping, now, page, pairs, ranges, reach, record, store, stored, told_counts)
+                  listed, mapping, now, other, page, pairs, ranges, reach, record, sized, store, stored, told_counts)
 
 # ==== by hand: a fresh table
 fresh(0, want=0)
@@ -33,6 +35,8 @@ ranges(1, 1, want=-90, gives=[(0, 0xFEDFFFFF)], a=4096)
 # ==== opening a command, O1 to O8, by each of the four
 for known, call in ((12, alloc), (8, destroy), (24, allow), (32, ranges)):
     badly_opened(known, call)
+for cmd in (b'', bytes(3), bytes(4), sized(40, 40), sized(40, 48, 1)):
+    other(cmd, want=-25)                                               # O2: before bytes
 fresh()
 ok = struct.pack('<III', 20, 0, 7)
 alloc(cmd=ok + bytes(8), want=0, i=1)                                  # a tail of zeros
@@ -71,6 +75,7 @@ allow(1, [], count=2**28, area=b'', want=-12)
 allow(1, [(5, 4)] * 8, area=pairs([(5, 4)] * 8)[:127], want=-14)
 allow(1, [], count=1, area=b'', want=-14)
 allow(1, [(0x10000, 0x10000)], count=2, want=-14)
+allow(1, [(5, 9), (9, 9)], count=3, want=-14)
 allow(1, [(0x10000, 0x10000), (1, 0)], want=-22)                       # A2: all are asked the first question first
 allow(1, [(1, 0), (0x10000, 0x10000)], want=-22)
 allow(1, [(0x10000, 0x10000), (7, 9), (9, 9)], want=-22)
@@ -176,6 +181,8 @@ bind(4096, [(0, 0)] * 4, count=5, want=-22)
 bind(4096, [(1, 0)], want=-22)
 destroy(1, want=-16)                                                   # a space with a device
 destroy(5, want=-16)                                                   # an attached device
+for i in (1, 5):
+    destroy(cmd=struct.pack('<III', 12, i, 1), want=-7)                # the tail before either
 for i in (0, 33, 34, 2**16 + 1, 2**31 + 5, 2**32 - 1):
     destroy(i, want=-2)
 destroy(32, want=0)                                                    # a loose device
@@ -305,6 +312,8 @@ ranges(1, 2, want=0, gives=[(0, 0xFFFF), (0x11000, TOP)], a=4096)
 attach(5, 1, want=0)                                                   # H6: the higher of old and new
 mapping(9, page(2, 0, 9))
 attach(5, 2, want=-16)                                                 # 16 before 98
+mapping(9, page(2, 0x1400, 9, length=0x400))
+attach(5, 2, want=-16)                                                 # likewise: 2048 would not suit it
 mapping(9)
 ranges(1, 2, want=-90, a=4096)
 destroy(1, want=-16)
@@ -389,6 +398,9 @@ attach(4, 2, want=0)
 reach(4, 0x1000, 1, want=-1)
 reach(4, 0x1000, 1, write=True, want=0, at=0x9000)
 reach(4, 0x2000, 1, write=True, want=-14)
+limit(0)
+reach(4, 0x1000, 1, want=-117)                                         # 117 before 1
+limit(2**36)
 detach(3, want=0)
 reach(3, 0x1000, 1, want=-22)
 
@@ -407,8 +419,14 @@ for k in range(8):                                                     # all eig
 alloc(cmd=b'', want=-117)
 destroy(cmd=b'\x01', want=-117)
 allow(cmd=bytes(24), want=-117)
+allow(cmd=b'', want=-117)
 ranges(cmd=b'', want=-117)
 bind(0, want=-117)
+bind(8192, want=-117)
+bind(4096, [(0, 0)] * 4, count=5, want=-117)
+bind(4096, [(1, 0)], want=-117)
+for cmd in (b'', bytes(40)):                                           # O3: for unknown requests too
+    other(cmd, want=-117)
 limit(TOP)
 bad('limit above 2^36')
 limit(2**36)
@@ -689,6 +707,9 @@ CAN = {
     'fresh': {22}, 'bind': {22, 12}, 'attach': {2, 16, 98}, 'detach': {2, 22}, 'reach': {2, 22, 75, 14, 1}, 'alloc': {95, 12} | OPENING,
     'destroy': {2, 16} | OPENING, 'allow': {95, 2, 12, 14, 22, 98} | OPENING, 'ranges': {95, 2, 14, 90} | OPENING,
 }
-errnos_are({name: can | {0} | ({117} if name != 'fresh' else set()) for name, can in CAN.items()})
+errnos_are({'other': {25, 117}, **{name: can | {0} | ({117} if name != 'fresh' else set()) for name, can in CAN.items()}})
+ordered = pinned('tablevectors.py', {'other': model_unknown, 'bind': model_bind, 'attach': model_attach, 'detach': model_detach, 'reach': model_reach,
+                                     'alloc': model_alloc, 'destroy': model_destroy, 'allow': model_allow, 'ranges': model_ranges})
 store('tablevectors')
-told_counts(CAN)
+told_counts([*CAN, 'other'])
+print('\n'.join(ordered))

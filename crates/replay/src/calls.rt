@@ -16,7 +16,7 @@ pub fn answer(t: Table, operation: u32, body: &[u8]) -> Table {
         3 => attach(t, body),
         4 => detach(t, body),
         5 => reach(t, body),
-        6 | 7 | 13 | 14 | 15 => command(t, operation, body),
+        6 | 7 | 13 | 14 | 15 | 16 => command(t, operation, body),
         8 | 9 => with_area(t, operation, body),
         10 => stored::mapping(t, body),
         11 => stored::object(t, body),
@@ -86,6 +86,7 @@ fn command_on(t: Table, operation: u32, cmd: &mut [u8]) -> Table {
         13 => replied(t, 0x3B85, b"map", cmd),
         14 => replied(t, 0x3B83, b"copy", cmd),
         15 => replied(t, 0x3B86, b"unmap", cmd),
+        16 => replied(t, 0x3B87, b"other", cmd),
         _ => unknown(t),
     }
 }
