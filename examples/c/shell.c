@@ -3,31 +3,26 @@
 
 #include <stdio.h>
 #include <stdlib.h>
-#include <string.h>
 
-static struct iommufd_head head;
-static struct iommufd_mapping mappings[IOMMUFD_MAPPINGS];
-static uint8_t no_area[1];
+static struct iommufd_table table;
 
 /* Prints a step with its result, and stops where it is not the one expected. */
 static void step(const char *what, int32_t result, int32_t expected)
 {
-	printf("%-44s %d\n", what, (int)result);
+	if (result < 0)
+		printf("%-44s %d, %s\n", what, (int)result, iommufd_errno_text(result));
+	else
+		printf("%-44s %d\n", what, (int)result);
 	if (result != expected) {
 		printf("expected %d\n", (int)expected);
 		exit(1);
 	}
 }
 
+/* A command with no range area. */
 static int32_t call(uint32_t request, void *command, size_t size)
 {
-	uint8_t bytes[64];
-	int32_t result;
-
-	memcpy(bytes, command, size);
-	result = iommufd_call(&head, mappings, IOMMUFD_MAPPINGS, request, bytes, size, no_area, 0);
-	memcpy(command, bytes, size);
-	return result;
+	return iommufd_table_call(&table, request, command, size, NULL, 0);
 }
 
 static uint32_t new_space(const char *what)
@@ -40,9 +35,9 @@ static uint32_t new_space(const char *what)
 
 static uint32_t new_camera(const char *what, int32_t id)
 {
-	struct iommufd_reserved reserved = { .count = 1, .starts = { 0xFEE00000 }, .lasts = { 0xFEEFFFFF } };
+	const struct iommufd_reserved reserved = { .count = 1, .starts = { 0xFEE00000 }, .lasts = { 0xFEEFFFFF } };
 
-	step(what, iommufd_bind(&head, mappings, IOMMUFD_MAPPINGS, 4096, reserved), id);
+	step(what, iommufd_table_bind(&table, 4096, &reserved), id);
 	return (uint32_t)id;
 }
 
@@ -56,50 +51,56 @@ static uint64_t map(const char *what, uint32_t space, uint32_t flags, uint64_t m
 	return map.address;
 }
 
+static void unmap(const char *what, uint32_t space, uint64_t address, uint64_t length)
+{
+	struct iommufd_unmap_cmd unmap = { .size = sizeof unmap, .space = space, .address = address, .length = length };
+
+	step(what, call(IOMMUFD_UNMAP, &unmap, sizeof unmap), 0);
+	printf("%-44s 0x%llx\n", "bytes removed", (unsigned long long)unmap.length);
+}
+
 static void reach(const char *what, uint32_t camera, uint64_t address, uint64_t length, uint32_t write)
 {
-	struct iommufd_number n = iommufd_reach(&head, mappings, IOMMUFD_MAPPINGS, camera, address, length, write);
+	struct iommufd_number n = iommufd_table_reach(&table, camera, address, length, write);
 
 	if (n.result == 0)
 		printf("%-44s memory 0x%llx\n", what, (unsigned long long)n.value);
 	else
-		printf("%-44s %d\n", what, (int)n.result);
+		printf("%-44s %d, %s\n", what, (int)n.result, iommufd_errno_text(n.result));
 }
 
 static void charge(void)
 {
-	struct iommufd_number n = iommufd_charge(&head, mappings, IOMMUFD_MAPPINGS);
+	struct iommufd_number n = iommufd_table_charge(&table);
 
 	printf("%-44s %llu pages\n", "charge", (unsigned long long)n.value);
+}
+
+/* The mapping of a space that comes after another by its address, or the first; NULL if there is none. */
+static const struct iommufd_mapping *mapping_after(uint32_t space, const struct iommufd_mapping *one)
+{
+	const struct iommufd_mapping *next = NULL;
+
+	for (size_t i = 0; i < IOMMUFD_MAPPINGS; i++) {
+		const struct iommufd_mapping *m = &table.mappings[i];
+
+		if (m->space == space && (one == NULL || m->address > one->address) && (next == NULL || m->address < next->address))
+			next = m;
+	}
+	return next;
 }
 
 /* The mappings of a space by their addresses. */
 static void print_space(uint32_t space)
 {
-	uint64_t from = 0;
-	int some = 0;
+	const struct iommufd_mapping *m = mapping_after(space, NULL);
 
 	printf("space %u\n", (unsigned)space);
-	for (;;) {
-		const struct iommufd_mapping *next = NULL;
-
-		for (size_t i = 0; i < IOMMUFD_MAPPINGS; i++) {
-			const struct iommufd_mapping *m = &mappings[i];
-
-			if (m->space == space && m->address >= from && (next == NULL || m->address < next->address))
-				next = m;
-		}
-		if (next == NULL)
-			break;
-		printf("  0x%08llx to 0x%08llx -> memory 0x%08llx  %c%c  backing %u\n", (unsigned long long)next->address,
-		       (unsigned long long)(next->address + next->length - 1), (unsigned long long)next->memory,
-		       next->rights & IOMMUFD_RIGHT_READ ? 'r' : '-', next->rights & IOMMUFD_RIGHT_WRITE ? 'w' : '-',
-		       (unsigned)next->backing);
-		some = 1;
-		from = next->address + 1;
-	}
-	if (!some)
+	if (m == NULL)
 		printf("  nothing mapped\n");
+	for (; m != NULL; m = mapping_after(space, m))
+		printf("  0x%08llx to 0x%08llx -> memory 0x%08llx  %c%c  backing %u\n", (unsigned long long)m->address, (unsigned long long)(m->address + (m->length - 1)),
+		       (unsigned long long)m->memory, m->rights & IOMMUFD_RIGHT_READ ? 'r' : '-', m->rights & IOMMUFD_RIGHT_WRITE ? 'w' : '-', (unsigned)m->backing);
 }
 
 int main(void)
@@ -108,13 +109,17 @@ int main(void)
 	uint32_t left, right, left_camera, right_camera;
 	uint64_t private_at, shared_at;
 
-	step("a table of at most 64 pages", iommufd_fresh(&head, mappings, IOMMUFD_MAPPINGS, 64), 0);
+	if (iommufd_archive_version != IOMMUFD_VERSION) {
+		printf("the archive is of version %u, the header of version %u\n", (unsigned)iommufd_archive_version, (unsigned)IOMMUFD_VERSION);
+		return 1;
+	}
+	step("a table of at most 64 pages", iommufd_table_fresh(&table, 64), 0);
 	left = new_space("the left camera's space");
 	right = new_space("the right camera's space");
 	left_camera = new_camera("the left camera", 3);
 	right_camera = new_camera("the right camera", 4);
-	step("left camera to its space", iommufd_attach(&head, mappings, IOMMUFD_MAPPINGS, left_camera, left), 0);
-	step("right camera to its space", iommufd_attach(&head, mappings, IOMMUFD_MAPPINGS, right_camera, right), 0);
+	step("left camera to its space", iommufd_table_attach(&table, left_camera, left), 0);
+	step("right camera to its space", iommufd_table_attach(&table, right_camera, right), 0);
 
 	private_at = map("a private buffer, writeable", left, rw, 0x100000, 0x4000, 0, 0);
 	shared_at = map("a shared buffer, writeable", left, rw, 0x200000, 0x2000, 0, 0);
@@ -136,22 +141,22 @@ int main(void)
 	reach("right camera writes the shared buffer", right_camera, 0, 0x2000, 1);
 	reach("right camera reads past its buffer", right_camera, 0x1000, 0x2000, 0);
 
-	{
-		struct iommufd_unmap_cmd unmap = { .size = sizeof unmap, .space = left, .address = private_at, .length = 0x4000 };
-
-		step("the private buffer goes", call(IOMMUFD_UNMAP, &unmap, sizeof unmap), 0);
-		printf("%-44s 0x%llx\n", "bytes removed", (unsigned long long)unmap.length);
-	}
+	unmap("the private buffer goes", left, private_at, 0x4000);
 	charge();
 	print_space(left);
 	print_space(right);
 	reach("left camera writes where the buffer was", left_camera, private_at, 1, 1);
 
-	head.objects[5].kind = 7;
+	map("the last page of all addresses", right, IOMMUFD_READABLE | IOMMUFD_FIXED, 0x400000, 0x1000, UINT64_MAX - 0xFFF, 0);
+	print_space(right);
+	unmap("everything of the right camera goes", right, 0, UINT64_MAX);
+	print_space(right);
+
+	table.head.objects[5].kind = 7;
 	step("a kind that is none", call(IOMMUFD_DESTROY, &(struct iommufd_destroy_cmd){ .size = 8, .id = left }, 8), -IOMMUFD_EUCLEAN);
-	head.objects[5].kind = IOMMUFD_FREE;
-	step("127 records lent", iommufd_detach(&head, mappings, IOMMUFD_MAPPINGS - 1, left_camera), -IOMMUFD_EUCLEAN);
-	step("left camera detached", iommufd_detach(&head, mappings, IOMMUFD_MAPPINGS, left_camera), 0);
+	table.head.objects[5].kind = IOMMUFD_FREE;
+	step("127 records lent", iommufd_detach(&table.head, table.mappings, IOMMUFD_MAPPINGS - 1, left_camera), -IOMMUFD_EUCLEAN);
+	step("left camera detached", iommufd_table_detach(&table, left_camera), 0);
 	step("its space destroyed", call(IOMMUFD_DESTROY, &(struct iommufd_destroy_cmd){ .size = 8, .id = left }, 8), 0);
 	charge();
 	print_space(left);
