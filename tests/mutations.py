@@ -4,7 +4,7 @@
     mutations.py [--only WORDS]     WORDS are a part of a name
 
 Each change is built in a copy of tests/outside, and the fixed sequences run until the first difference. Needs the built archive
-(target/staticlib/libboundary.a). Ends with status 0 if every change was noticed, 1 if one was not or could not be tried, 2 without an archive.
+(target/archives/x86_64/libiommufd.a). Ends with status 0 if every change was noticed, 1 if one was not or could not be tried, 2 without an archive.
 """
 import os
 import re
@@ -17,7 +17,7 @@ from concurrent.futures import ThreadPoolExecutor
 from queue import Queue
 
 ROOT = os.path.dirname(os.path.dirname(os.path.abspath(__file__)))
-ARCHIVE = os.path.join(ROOT, 'target', 'staticlib')
+ARCHIVE = os.path.join(ROOT, 'target', 'archives', 'x86_64')
 WORKERS = 2
 WAIT = 600                                                             # seconds for a build or a run
 
@@ -434,7 +434,7 @@ def main(given):
     if given and (len(given) != 2 or given[0] != '--only'):
         print(__doc__.strip(), file=sys.stderr)
         return 2
-    if not os.path.exists(os.path.join(ARCHIVE, 'libboundary.a')):
+    if not os.path.exists(os.path.join(ARCHIVE, 'libiommufd.a')):
         print('mutations.py: no archive at %s; build it first' % ARCHIVE, file=sys.stderr)
         return 2
     mutations = [m for m in MUTATIONS if not given or given[1] in m.name]

@@ -14,16 +14,13 @@ program=$1
 shift
 
 # The archive is built anew where a source is newer than it is.
-archive=target/staticlib/libboundary.a
-if [ ! -f "$archive" ] || [ -n "$(find crates crates.txt -newer "$archive" \( -name '*.rt' -o -name crates.txt \) -print -quit)" ]; then
-  mkdir -p target
-  rt staticlib boundary >target/archive.say 2>&1 || { tail -n 20 target/archive.say; exit 1; }
-fi
+mkdir -p target
+archives/build.sh --ready x86_64 >target/archive.say 2>&1 || { tail -n 20 target/archive.say; exit 1; }
 
 [ "$program" != mutations ] || exec python3 tests/mutations.py "$@"
 
 # Loops at a multiple of 64 bytes: where a short loop lies otherwise decides up to half of its time, and the plain program that is measured has one.
-export CARGO_TARGET_DIR="$PWD/target/outside" IOMMUFD_LIB="$PWD/target/staticlib" RUSTFLAGS="-D warnings -C llvm-args=-align-loops=64"
+export CARGO_TARGET_DIR="$PWD/target/outside" IOMMUFD_LIB="$PWD/target/archives/x86_64" RUSTFLAGS="-D warnings -C llvm-args=-align-loops=64"
 [ "$program" != test ] || exec cargo test --quiet --offline --manifest-path tests/outside/Cargo.toml "$@"
 cargo build --quiet --release --offline --manifest-path tests/outside/Cargo.toml
 exec "target/outside/release/$program" "$@"

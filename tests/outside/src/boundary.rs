@@ -7,7 +7,7 @@ fn told(result: i32) -> Number {
     Number { result, value: 0 }
 }
 
-/// The call through libboundary.a.
+/// The call through libiommufd.a.
 pub fn run(lent: &mut Lent, call: &mut Call) -> Number {
     let (mut bytes, mut area) = match call {
         Call::Command { bytes, area, .. } | Call::Preview { bytes, area, .. } => (take(bytes), take(area)),

@@ -75,7 +75,7 @@ fn bytes_back(call: &mut Call, new_bytes: &[u8], new_area: &[u8]) {
     }
 }
 
-/// The call through libboundary.a, or which guard it wrote to.
+/// The call through libiommufd.a, or which guard it wrote to.
 pub fn run(dice: &mut Dice, lent: &mut Lent, call: &mut Call) -> Result<Number, &'static str> {
     let pattern = dice.roll();
     let (bytes, area) = bytes_of(call);
