@@ -1,113 +1,170 @@
-//! The shell of examples/c once more, over the safe wrapper: two cameras, two spaces, a private and a shared buffer, and what each camera reaches.
-use iommufd::{request, Errno, Table, FIXED, READABLE, WRITEABLE};
+//! A small kernel shell over the wrapper: two cameras, two spaces, a private and a shared buffer, and what each camera reaches; a mapping at the last address; a driver's
+//! bytes through the ioctl.
+use iommufd::command::{self, Map, Unmap};
+use iommufd::ioctl::{Ioctl, UserMemory};
+use iommufd::{request, Access, Errno, Place, Range, Rights, Table};
+use std::sync::Mutex;
 
-/// The bytes of a command: 32-bit fields from the size field on, then 64-bit fields.
-fn command(halves: &[u32], words: &[u64]) -> Vec<u8> {
-    let size = 4 + 4 * halves.len() + 8 * words.len();
-    let mut bytes = (size as u32).to_le_bytes().to_vec();
-    for h in halves {
-        bytes.extend(h.to_le_bytes());
-    }
-    for w in words {
-        bytes.extend(w.to_le_bytes());
-    }
-    bytes
-}
+/// Where a kernel keeps its table: behind a lock of its own.
+static TABLE: Mutex<Table> = Mutex::new(Table::empty());
 
-fn word_at(bytes: &[u8], at: usize) -> u64 {
-    u64::from_le_bytes(bytes[at..at + 8].try_into().unwrap())
-}
+const LAST_PAGE: u64 = u64::MAX - 0xFFF;
 
 fn show<T>(what: &str, answer: Result<T, Errno>) -> Option<T> {
     match answer {
         Ok(value) => {
-            println!("{what:<44} done");
+            println!("{what:<46} done");
             Some(value)
         }
-        Err(e) => {
-            println!("{what:<44} refused with {}", e.0);
+        Err(errno) => {
+            println!("{what:<46} refused with {}: {errno}", errno.number());
             None
         }
     }
 }
 
-fn new_space(t: &mut Table, what: &str) -> u32 {
-    let mut alloc = command(&[0, 0], &[]);
-    show(what, t.call(request::IOAS_ALLOC, &mut alloc, &mut []));
-    u32::from_le_bytes(alloc[8..12].try_into().unwrap())
+/// A step that has to be accepted.
+fn must<T>(what: &str, answer: Result<T, Errno>) -> T {
+    show(what, answer).expect("the step is accepted")
 }
 
-fn map(t: &mut Table, what: &str, space: u32, flags: u32, memory: u64, length: u64, address: u64) -> u64 {
-    let mut map = command(&[flags, space, 0], &[memory, length, address]);
-    show(what, t.call(request::MAP, &mut map, &mut []));
-    word_at(&map, 32)
-}
-
-fn reach(t: &Table, what: &str, device: u32, address: u64, length: u64, write: bool) {
-    match t.reach(device, address, length, write) {
-        Ok(memory) => println!("{what:<44} memory {memory:#x}"),
-        Err(e) => println!("{what:<44} refused with {}", e.0),
+fn reach(table: &Table, what: &str, device: u32, address: u64, length: u64, access: Access) {
+    match table.reach(device, address, length, access) {
+        Ok(memory) => println!("{what:<46} memory {memory:#x}"),
+        Err(errno) => println!("{what:<46} refused with {}: {errno}", errno.number()),
     }
 }
 
-fn print_space(t: &Table, space: u32) {
-    println!("space {space}, charge of the table {}", t.charge().unwrap_or(0));
-    let of = t.mappings_of(space);
-    for m in &of {
-        let read = if m.rights & 2 != 0 { 'r' } else { '-' };
-        let write = if m.rights & 1 != 0 { 'w' } else { '-' };
-        println!(
-            "  {:#010x} to {:#010x} -> memory {:#010x}  {read}{write}  backing {}",
-            m.address,
-            m.address + (m.length - 1),
-            m.memory,
-            m.backing
-        );
+fn print_space(table: &Table, space: u32) {
+    println!("space {space}, charge of the table {}", table.charge().expect("a good table"));
+    for m in table.mappings_of(space) {
+        let (range, read, write) = (m.range(), if m.rights.read() { 'r' } else { '-' }, if m.rights.write() { 'w' } else { '-' });
+        println!("  {:#010x} to {:#010x} -> memory {:#010x}  {read}{write}  backing {}", range.start, range.last, m.memory, m.backing);
     }
-    if of.is_empty() {
+    if table.mappings_of(space).next().is_none() {
         println!("  nothing mapped");
     }
 }
 
+fn print_free(table: &Table, what: &str, space: u32, room: usize) {
+    let mut ranges = vec![Range::default(); room];
+    let free = must(what, table.iova_ranges(space, &mut ranges));
+    println!("  {} of {}, alignment {}", free.written, free.total, free.alignment);
+    for range in &ranges[..free.written] {
+        println!("  {:#x} to {:#x}", range.start, range.last);
+    }
+}
+
+/// Two cameras with a space each; what the kernel itself asks for. The answer is the space that stays.
+fn cameras(t: &mut Table) -> u32 {
+    show("a table above the highest limit", t.fresh((1 << 36) + 1));
+    must("a table of at most 64 pages", t.fresh(64));
+    let left = must("the left camera's space", t.alloc_space());
+    let right = must("the right camera's space", t.alloc_space());
+    let reserved = [Range::new(0xFEE0_0000, 0xFEEF_FFFF)];
+    let left_camera = must("the left camera", t.bind(4096, &reserved));
+    let right_camera = must("the right camera", t.bind(4096, &reserved));
+    must("left camera to its space", t.attach(left_camera, left));
+    must("right camera to its space", t.attach(right_camera, right));
+
+    let buffer = |memory, length, place| Map { space: left, rights: Rights::READ_WRITE, memory, length, place };
+    let private = must("a private buffer, writeable", t.map(buffer(0x10_0000, 0x4000, Place::Automatic)));
+    let shared = must("a shared buffer, writeable", t.map(buffer(0x20_0000, 0x2000, Place::Automatic)));
+    show("a second buffer on the private one", t.map(buffer(0x30_0000, 0x1000, Place::Fixed(private))));
+    let copy = command::Copy {
+        target: right,
+        rights: Rights::READ,
+        place: Place::Automatic,
+        source: left,
+        source_address: shared,
+        length: 0x2000,
+    };
+    must("the copy, asked for beforehand", t.preview_copy(copy));
+    let copied = must("the shared buffer, copied for reading", t.copy(copy));
+    print_space(t, left);
+    print_space(t, right);
+
+    reach(t, "left camera writes its private buffer", left_camera, private + 0x1000, 0x1000, Access::Write);
+    reach(t, "right camera reads the shared buffer", right_camera, copied, 0x2000, Access::Read);
+    reach(t, "right camera writes the shared buffer", right_camera, copied, 0x2000, Access::Write);
+    print_free(t, "free ranges with room for one", left, 1);
+    print_free(t, "free ranges with room for all", left, iommufd::MOST_RANGES);
+
+    let removed = must("the private buffer goes", t.unmap(Unmap { space: left, address: private, length: 0x4000 }));
+    println!("  {removed:#x} bytes removed");
+    print_space(t, left);
+    show("its space destroyed while the camera is there", t.destroy(left));
+    must("left camera detached", t.detach(left_camera));
+    must("its space destroyed", t.destroy(left));
+    print_space(t, left);
+    print_space(t, right);
+
+    last_address(t, right, right_camera);
+    right
+}
+
+/// The end of the address space is an address like others.
+fn last_address(t: &mut Table, space: u32, camera: u32) {
+    let page = Map { space, rights: Rights::WRITE, memory: 0x40_0000, length: 0x1000, place: Place::Fixed(LAST_PAGE) };
+    must("a buffer in the last page", t.map(page));
+    show("a buffer past the last address", t.map(Map { length: 0x2000, ..page }));
+    print_space(t, space);
+    reach(t, "right camera writes the last byte", camera, u64::MAX, 1, Access::Write);
+    let removed = must("all mappings of the space go", t.unmap(Unmap::all(space)));
+    println!("  {removed:#x} bytes removed");
+    print_space(t, space);
+}
+
+/// The memory of a driver, from an address of its own on.
+struct Program {
+    memory: [u8; 64],
+}
+
+const PROGRAM: u64 = 0x7000_0000;
+
+impl Program {
+    /// The bytes at an address, where the program has them all.
+    fn at(&mut self, address: u64, length: usize) -> Option<&mut [u8]> {
+        let from = usize::try_from(address.checked_sub(PROGRAM)?).ok()?;
+        self.memory.get_mut(from..from.checked_add(length)?)
+    }
+}
+
+impl UserMemory for Program {
+    fn read(&mut self, from: u64, into: &mut [u8]) -> bool {
+        self.at(from, into.len()).is_some_and(|bytes| {
+            into.copy_from_slice(bytes);
+            true
+        })
+    }
+
+    fn write(&mut self, to: u64, bytes: &[u8]) -> bool {
+        self.at(to, bytes.len()).is_some_and(|place| {
+            place.copy_from_slice(bytes);
+            true
+        })
+    }
+}
+
+/// The kernel's ioctl. The lock is held while the command runs, and not while bytes are copied.
+fn ioctl(request: u32, argument: u64, program: &mut Program) -> i32 {
+    let mut ioctl = Ioctl::receive(request, argument, program);
+    let answer = ioctl.run(&mut TABLE.lock().expect("no step panics"));
+    ioctl.reply(answer, program)
+}
+
+/// A driver that sends bytes.
+fn driver(space: u32) {
+    let mut program = Program { memory: [0; 64] };
+    let map = Map { space, rights: Rights::READ, memory: 0x50_0000, length: 0x3000, place: Place::Automatic };
+    program.memory[..Map::SIZE].copy_from_slice(&map.bytes());
+    println!("{:<46} {}", "a driver's MAP", ioctl(request::MAP, PROGRAM, &mut program));
+    println!("{:<46} {}", "a driver's MAP that its memory cuts", ioctl(request::MAP, PROGRAM + 62, &mut program));
+    println!("{:<46} {}", "a driver's request that is none", ioctl(0x3B7F, PROGRAM, &mut program));
+}
+
 fn main() {
-    show("a table above the highest limit", Table::new((1 << 36) + 1));
-    let mut t = Table::new(64).expect("a table of at most 64 pages");
-    let left = new_space(&mut t, "the left camera's space");
-    let right = new_space(&mut t, "the right camera's space");
-    let reserved = [(0xFEE0_0000, 0xFEEF_FFFF)];
-    let left_camera = show("the left camera", t.bind(4096, &reserved)).unwrap_or(0);
-    let right_camera = show("the right camera", t.bind(4096, &reserved)).unwrap_or(0);
-    show("left camera to its space", t.attach(left_camera, left));
-    show("right camera to its space", t.attach(right_camera, right));
-
-    let rw = READABLE | WRITEABLE;
-    let private = map(&mut t, "a private buffer, writeable", left, rw, 0x10_0000, 0x4000, 0);
-    let shared = map(&mut t, "a shared buffer, writeable", left, rw, 0x20_0000, 0x2000, 0);
-    map(&mut t, "a second buffer on the private one", left, rw | FIXED, 0x30_0000, 0x1000, private);
-
-    let mut copy = command(&[READABLE, right, left], &[0x2000, 0, shared]);
-    let asked = copy.clone();
-    show("the copy, asked for beforehand", t.preview(request::COPY, &mut copy, &mut []));
-    copy = asked;
-    show("the shared buffer, copied for reading", t.call(request::COPY, &mut copy, &mut []));
-    print_space(&t, left);
-    print_space(&t, right);
-
-    reach(&t, "left camera writes its private buffer", left_camera, private + 0x1000, 0x1000, true);
-    reach(&t, "right camera reads the shared buffer", right_camera, word_at(&copy, 24), 0x2000, false);
-    reach(&t, "right camera writes the shared buffer", right_camera, word_at(&copy, 24), 0x2000, true);
-
-    let mut ranges = command(&[left, 1, 0], &[0, 0]);
-    let mut area = [0u8; 16];
-    show("free ranges with room for one", t.call(request::IOVA_RANGES, &mut ranges, &mut area));
-    println!("  {:#x} to {:#x}, of {} in all", word_at(&area, 0), word_at(&area, 8), u32::from_le_bytes(ranges[8..12].try_into().unwrap()));
-
-    let mut unmap = command(&[left], &[private, 0x4000]);
-    show("the private buffer goes", t.call(request::UNMAP, &mut unmap, &mut []));
-    print_space(&t, left);
-    show("its space destroyed while the camera is there", t.call(request::DESTROY, &mut command(&[left], &[]), &mut []));
-    show("left camera detached", t.detach(left_camera));
-    show("its space destroyed", t.call(request::DESTROY, &mut command(&[left], &[]), &mut []));
-    print_space(&t, left);
-    print_space(&t, right);
+    let space = cameras(&mut TABLE.lock().expect("no step panics"));
+    driver(space);
+    print_space(&TABLE.lock().expect("no step panics"), space);
 }

@@ -1,5 +1,18 @@
-//! The layout of include/iommufd.h and its entries, as C has them. What each entry asks of its caller stands in the header.
+//! The layout of include/iommufd.h and its entries, as C has them, for a caller that lends memory of its own. What each entry asks of its caller stands in the header.
 use core::mem::size_of;
+
+/// The version of the header that is written down here.
+pub const VERSION: u32 = 1;
+
+/// The object records of a table.
+pub const OBJECTS: usize = 32;
+/// The mapping records of a table.
+pub const MAPPINGS: usize = 128;
+
+/// A mapping's right to write.
+pub const RIGHT_WRITE: u32 = 1;
+/// A mapping's right to read.
+pub const RIGHT_READ: u32 = 2;
 
 /// An object record. Kinds: 0 free, 1 space, 2 loose device, 3 device attached to the space `home`.
 #[repr(C)]
@@ -25,6 +38,21 @@ pub struct Object {
     pub allow_lasts: [u64; 8],
 }
 
+impl Object {
+    /// A record that is no object.
+    pub const FREE: Object = Object {
+        kind: 0,
+        home: 0,
+        bitmap: 0,
+        reserved_count: 0,
+        allow_count: 0,
+        reserved_starts: [0; 4],
+        reserved_lasts: [0; 4],
+        allow_starts: [0; 8],
+        allow_lasts: [0; 8],
+    };
+}
+
 /// The limit and the objects. Object i has the id i + 1.
 #[repr(C)]
 #[derive(Clone, Debug, Default, PartialEq, Eq)]
@@ -32,7 +60,12 @@ pub struct Head {
     /// The most pages that may be charged.
     pub limit: u64,
     /// The object records.
-    pub objects: [Object; 32],
+    pub objects: [Object; OBJECTS],
+}
+
+impl Head {
+    /// No objects, and a limit of 0 pages.
+    pub const EMPTY: Head = Head { limit: 0, objects: [Object::FREE; OBJECTS] };
 }
 
 /// A mapping record. A released record is all zero.
@@ -41,7 +74,7 @@ pub struct Head {
 pub struct Mapping {
     /// The space's id, 0 where the record is released.
     pub space: u32,
-    /// Bit 0 write, bit 1 read.
+    /// [`RIGHT_WRITE`] and [`RIGHT_READ`].
     pub rights: u32,
     /// 1 where the founding MAP was writeable.
     pub founder: u32,
@@ -53,6 +86,11 @@ pub struct Mapping {
     pub length: u64,
     /// The first byte of memory.
     pub memory: u64,
+}
+
+impl Mapping {
+    /// A record that is no mapping.
+    pub const RELEASED: Mapping = Mapping { space: 0, rights: 0, founder: 0, backing: 0, address: 0, length: 0, memory: 0 };
 }
 
 /// The reserved ranges of a device to bind.
@@ -87,6 +125,7 @@ const _: () = assert!(size_of::<Number>() == 16);
 
 #[allow(missing_docs)] // include/iommufd.h says what each entry does
 extern "C" {
+    pub static iommufd_archive_version: u32;
     pub fn iommufd_fresh(head: *mut Head, mappings: *mut Mapping, count: usize, limit: u64) -> i32;
     pub fn iommufd_call(
         head: *mut Head,
