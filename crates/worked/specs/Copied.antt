@@ -42,7 +42,7 @@ pub k11-id : allocBytes oneSpace askSpace ≡ u32 12 ++ (u32 0 ++ u32 2)
 unfolding allocBytes replied allocCall allocEdit allocChecks first freeRecord seek oneSpace field put
 k11-id = rw (alloc-open oneSpace space-good)
 
-spaces-good : good (twoSpaces []) ≡ true
+pub spaces-good : good (twoSpaces []) ≡ true
 spaces-good = kept k11-space (alloc-good oneSpace space-good askSpace)
 
 -- K11, one page mapped in space 1

@@ -1,4 +1,4 @@
--- Document 01's bench set through whole calls, each on the table that the calls before it gave.
+-- Document 01's bench set, and what a device reaches, through whole calls, each on the table that the calls before it gave.
 pub mod Plan
 pub mod Ranges
 pub mod Refused
@@ -7,3 +7,4 @@ pub mod Mapped
 pub mod Unmapped
 pub mod Allowed
 pub mod Copied
+pub mod Reached
