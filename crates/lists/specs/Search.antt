@@ -185,6 +185,15 @@ module _ {A : Type 0} where
       (λ t. let f = find-cons-true p x xs t in let same : x ≡ a = cc in rw (← same) t)
       (λ t. find-some p xs a (sym (find-cons-false p x xs t) ∙ e))
 
+  -- and has a place
+  pub find-place : (p : A → Bool) (xs : List A) (d a : A) → find p xs ≡ some a → (i : ℕ) × (i < length xs) × (getD xs i d ≡ a)
+  unfolding find
+  find-place p [] d a e = let z : _≡_ {A = ℕ} 0 1 = cc in absurd (omega arith)
+  find-place p (x ∷ xs) d a e =
+      by-test (p x)
+      (λ t. let f = find-cons-true p x xs t in let same : x ≡ a = cc in (0, omega arith, same))
+      (λ t. let r = find-place p xs d a (sym (find-cons-false p x xs t) ∙ e) in (suc (r .0), omega (arith, r .1), r .2))
+
   -- and is an element: what no element passes, it does not
   pub find-some-any : (p q : A → Bool) (xs : List A) (a : A) → find p xs ≡ some a → any q xs ≡ false → q a ≡ false
   unfolding find any

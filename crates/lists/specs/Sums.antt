@@ -1,15 +1,16 @@
 -- The sum of a weight over the elements of a list, and the elements that pass a test.
 use Prim.Native.Nat.{ℕ, zero, suc, _+_, _*_, _≤_, _<_, zero-le}
 use mathlib.Core.Path.{_≡_, refl, ap, _∙_}
-use mathlib.Core.Bool.{Bool, false, _&&_, _||_, cond}
+use mathlib.Core.Bool.{Bool, true, false, _&&_, _||_, cond}
 use mathlib.Core.List.{List, [], _∷_, _++_}
+use mathlib.Core.Option.{some}
 use native.Mathlib.Nat.{le-of-suc-le-suc, not-suc-le-zero, suc-mul}
 use native.Mathlib.Omega.{arith}
 use lib.Dec.{ltb}
 use lib.ListN.{length, getD, drop, replicate, drop-of-length-le}
-use borrow.Author.Tests.{lt-ltb}
-use Rattle.lists.specs.Tests.{by-test, onlyIf, onlyIf-zero}
-use Rattle.lists.specs.Search.{any, drop-turn}
+use borrow.Author.Tests.{ltb-true, lt-ltb}
+use Rattle.lists.specs.Tests.{by-test, onlyIf, onlyIf-true, onlyIf-zero}
+use Rattle.lists.specs.Search.{any, any-at, find, find-cons-true, find-cons-false, drop-turn}
 use Rattle.lists.specs.Each.{Each}
 
 module _ {A : Type 0} where
@@ -96,6 +97,16 @@ module _ {A : Type 0} where
   unfolding countOf sumOf
   countOf-length p [] = zero-le
   countOf-length p (x ∷ xs) = by-test (p x) (λ e. rw e (omega (arith, countOf-length p xs))) (λ e. rw e (omega (arith, countOf-length p xs)))
+
+  -- at most one element passes q, and p is narrower than q: the element that passes p is the one that is found
+  pub find-only : (p q : A → Bool) → ((x : A) → p x ≡ true → q x ≡ true) → (xs : List A) (d : A) → countOf q xs ≤ 1 → (i : ℕ) → i < length xs → p (getD xs i d) ≡ true → find p xs ≡ some (getD xs i d)
+  unfolding countOf sumOf
+  find-only p q h [] d c i l e = absurd (not-suc-le-zero l)
+  find-only p q h (x ∷ xs) d c zero l e = find-cons-true p x xs e
+  find-only p q h (x ∷ xs) d c (suc i) l e =
+      by-test (p x)
+      (λ t. let one = ltb-true 0 (countOf q xs) (countOf-any q xs ∙ any-at q xs d i (le-of-suc-le-suc l) (h (getD xs i d) e)) in absurd (omega (arith, c, one, onlyIf-true (q x) 1 (h x t))))
+      (λ t. find-cons-false p x xs t ∙ find-only p q h xs d (omega (arith, c)) i (le-of-suc-le-suc l) e)
 
   -- the elements that pass, in their order
   unfoldable pub keep : (A → Bool) → List A → List A

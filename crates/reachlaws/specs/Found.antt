@@ -1,18 +1,16 @@
 -- In a good table reach's search finds the mapping that holds what is asked, and finds none exactly where none holds it.
-use Prim.Native.Nat.{ℕ, zero, suc, _+_, _-_, _≤_, _<_}
+use Prim.Native.Nat.{ℕ, _+_, _-_, _≤_, _<_}
 use mathlib.Core.Path.{_≡_, refl, sym, ap, subst, _∙_}
-use mathlib.Core.Bool.{Bool, true, false, _&&_}
-use mathlib.Core.List.{List, [], _∷_}
+use mathlib.Core.Bool.{true, false, _&&_}
 use mathlib.Core.Option.{none, some}
-use native.Mathlib.Nat.{le-of-suc-le-suc, not-suc-le-zero}
 use native.Mathlib.Omega.{arith}
 use lib.Dec.{leb}
 use lib.ListN.{length, getD}
 use borrow.Author.Tests.{eqb-true, eq-eqb, ne-eqb, le-leb, le-ltb}
 use Rattle.lists.specs.Tests.{by-test, and-left, and-right, and-both}
-use Rattle.lists.specs.Search.{any, any-place, all-at, find, find-cons-true, find-cons-false, find-some, find-any-false}
+use Rattle.lists.specs.Search.{any, any-place, all-at, find-some, find-place, find-any-false}
 use Rattle.lists.specs.Each.{Each-at}
-use Rattle.lists.specs.Sums.{countOf}
+use Rattle.lists.specs.Sums.{find-only}
 use Rattle.ranges.specs.Ranges.{U64MAX, holds, holds-of, inside, inside-from, inside-upto, passes, lastOf, lastOf-fits, span}
 use Rattle.table.specs.declared.Attachment.the-variants.{Attached}
 use Rattle.table.specs.declared.Kind.{Kind}
@@ -24,34 +22,11 @@ use Rattle.table.specs.Good.{deviceNames, deviceValid, listValid, listClear, ob
 use Rattle.table.specs.Checked.{objectOk, objectsOk, recordOk}
 use Rattle.table.specs.Sound.{covers, Sound}
 use Rattle.table.specs.Facts.{record-used}
-use Rattle.table.specs.Once.{countOf-cons, countOf-at}
 use Rattle.lookups.specs.Settled.{space-id}
 use Rattle.devices.specs.Kept.{device-place}
 use Rattle.devices.specs.Reach.{around}
 use Rattle.devices.specs.Held.{holdsAll}
 use Rattle.reachlaws.specs.Plain.{Holding, Asked}
-
--- ---- lists
-
-module _ {A : Type 0} where
-  -- at most one element passes q, and p is narrower than q: the element that passes p is the one that is found
-  pub find-only : (p q : A → Bool) → ((x : A) → p x ≡ true → q x ≡ true) → (xs : List A) (d : A) → countOf q xs ≤ 1 → (i : ℕ) → i < length xs → p (getD xs i d) ≡ true → find p xs ≡ some (getD xs i d)
-  find-only p q h [] d c i l e = absurd (not-suc-le-zero l)
-  find-only p q h (x ∷ xs) d c zero l e = find-cons-true p x xs e
-  find-only p q h (x ∷ xs) d c (suc i) l e =
-      by-test (p x)
-      (λ t. let two : countOf q (x ∷ xs) ≡ 1 + countOf q xs = countOf-cons q x xs ∙ rw (h x t) refl in
-      absurd (omega (arith, c, two, countOf-at q xs d i (le-of-suc-le-suc l) (h (getD xs i d) e))))
-      (λ t. find-cons-false p x xs t ∙ find-only p q h xs d (omega (arith, c, countOf-cons q x xs)) i (le-of-suc-le-suc l) e)
-
-  -- what is found has a place
-  pub find-place : (p : A → Bool) (xs : List A) (d a : A) → find p xs ≡ some a → (i : ℕ) × (i < length xs) × (getD xs i d ≡ a)
-  unfolding find
-  find-place p [] d a e = let z : _≡_ {A = ℕ} 0 1 = cc in absurd (omega arith)
-  find-place p (x ∷ xs) d a e =
-      by-test (p x)
-      (λ t. let f = find-cons-true p x xs t in let same : x ≡ a = cc in (0, omega arith, same))
-      (λ t. let r = find-place p xs d a (sym (find-cons-false p x xs t) ∙ e) in (suc (r .0), omega (arith, r .1), r .2))
 
 -- ---- the device's space
 
