@@ -36,7 +36,7 @@ extern "C" {
 /* Goes up with every change of this header or of an answer. A kernel may compare it with iommufd_archive_version, which is the one that its archive was built with. */
 #define IOMMUFD_VERSION 1
 extern const uint32_t iommufd_archive_version;
-/* The commit that the archive was built from, as text; with a + behind it if the tree had changes that were not committed. */
+/* The commit that the archive was built from, as text, with a + behind it if the tree had changes that were not committed; `unknown` if it was no git tree. */
 extern const char iommufd_archive_commit[];
 
 /* The stack of the deepest call, at least; the gate measures it on each archive (docs/PERFORMANCE.md). */

@@ -10,15 +10,7 @@ export PATH="/opt/rattle/bin:$PATH"
 
 case ${1:-} in "" | --exchanges) ;; *) sed -n '2,6s/^# \{0,1\}//p' "$0"; exit 2 ;; esac
 
-# The archives are built anew where one is missing or a source is newer.
-for arch in x86_64 aarch64 riscv64; do
-  archive=target/archives/$arch/libiommufd.a
-  if [ ! -f "$archive" ] || [ -n "$(find crates crates.txt archives include -newer "$archive" \( -name '*.rt' -o -name crates.txt -o -name build.sh -o -name iommufd.h \) -print -quit)" ]; then
-    archives/build.sh
-    break
-  fi
-done
-
+archives/build.sh --ready
 [ $# = 0 ] || { shift; exec python3 tests/exchanges.py "$@"; }
 
 out=$(mktemp -d)
