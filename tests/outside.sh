@@ -5,11 +5,12 @@
 #   tests/outside.sh differential --calls 10000000     a long run, with a line of progress; --seed S makes other sequences
 #   tests/outside.sh mutations                         whether the fixed set notices each of many slips in the model
 #   tests/outside.sh benchmark                         what a call costs, as markdown; --quick for a first look, --limit 2.0 to fail above that ratio
+#   tests/outside.sh record FILE [--sequences N]       calls with their answers, for tests/replay.sh; FILE is told from the root of the repository
 #   tests/outside.sh test                              the crate's own tests
 set -euo pipefail
 cd "$(dirname "$0")/.."
 export PATH="/opt/rattle/bin:$PATH"
-[ $# -ge 1 ] || { sed -n '2,9s/^# \{0,1\}//p' "$0"; exit 2; }
+[ $# -ge 1 ] || { sed -n '2,10s/^# \{0,1\}//p' "$0"; exit 2; }
 program=$1
 shift
 

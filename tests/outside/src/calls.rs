@@ -30,5 +30,15 @@ pub enum Call {
     Charge,
 }
 
+impl Call {
+    /// The bytes and the area of a command, nothing of any other call.
+    pub fn lent_bytes(&self) -> (&[u8], &[u8]) {
+        match self {
+            Call::Command { bytes, area, .. } | Call::Preview { bytes, area, .. } => (bytes, area),
+            _ => (&[], &[]),
+        }
+    }
+}
+
 /// A system that answers calls: the table, the bytes and the area are changed in place. The value is 0 where a call gives none.
 pub type System = fn(&mut Lent, &mut Call) -> Number;

@@ -9,12 +9,15 @@ use iommufd::raw::Number;
 /// A system under test. It may use the dice to place its memory, and tells if memory that was not lent was written.
 pub type Tried = fn(&mut Dice, &mut Lent, &mut Call) -> Result<Number, &'static str>;
 
-/// What was answered alike: the check that decided it, and why the table is bad where it is.
-#[derive(Clone, Copy, Debug)]
+/// What was answered alike: the check that decided it, why the table is bad where it is, and the answer itself.
+#[derive(Clone, Debug)]
 pub struct Answer {
     pub preview: bool,
     pub check: Check,
     pub bad: Option<&'static str>,
+    pub number: Number,
+    /// The call with its bytes and its area as the answer left them.
+    pub call: Call,
 }
 
 /// Where model and system differ, or what the system did that no call may do.
@@ -102,7 +105,7 @@ impl Pair {
         let broken = self.broken_rule(&given);
         if alike && broken.is_none() {
             let bad = if number.result == EUCLEAN { model::bad(&self.model) } else { None };
-            return Ok(Answer { preview: matches!(asked, Call::Preview { .. }), check, bad });
+            return Ok(Answer { preview: matches!(asked, Call::Preview { .. }), check, bad, number, call: given.call });
         }
         let mut parts = self.differing(number, &expected, &given);
         parts.extend(broken.map(str::to_string));

@@ -52,6 +52,14 @@ impl Coverage {
         lines
     }
 
+    /// What is not as it should be, a line each. A whole set of sequences has to reach everything that the model lists.
+    pub fn faults(&self, whole: bool) -> Vec<String> {
+        let missing = if whole { self.missing() } else { vec![] };
+        let missing = missing.iter().map(|check| format!("NOT REACHED: {check}"));
+        let unlisted = self.unlisted();
+        missing.chain(unlisted.iter().map(|check| format!("REACHED BUT NOT LISTED: {check}"))).collect()
+    }
+
     /// What the model lists and no call, or no preview, came to.
     pub fn missing(&self) -> Vec<String> {
         let checks = model::checks();

@@ -61,13 +61,6 @@ fn fenced_records(records: &[Mapping], fence: Mapping) -> Vec<Mapping> {
     [&fence, records, &fence].concat()
 }
 
-fn bytes_of(call: &Call) -> (&[u8], &[u8]) {
-    match call {
-        Call::Command { bytes, area, .. } | Call::Preview { bytes, area, .. } => (bytes, area),
-        _ => (&[], &[]),
-    }
-}
-
 fn bytes_back(call: &mut Call, new_bytes: &[u8], new_area: &[u8]) {
     if let Call::Command { bytes, area, .. } | Call::Preview { bytes, area, .. } = call {
         bytes.copy_from_slice(new_bytes);
@@ -78,7 +71,7 @@ fn bytes_back(call: &mut Call, new_bytes: &[u8], new_area: &[u8]) {
 /// The call through libiommufd.a, or which guard it wrote to.
 pub fn run(dice: &mut Dice, lent: &mut Lent, call: &mut Call) -> Result<Number, &'static str> {
     let pattern = dice.roll();
-    let (bytes, area) = bytes_of(call);
+    let (bytes, area) = call.lent_bytes();
     let (mut bytes, mut area) = (FencedBytes::around(bytes, dice), FencedBytes::around(area, dice));
     let mut head = FencedHead::around(&lent.head, pattern);
     let fence = fence_record(pattern);

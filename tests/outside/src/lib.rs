@@ -10,6 +10,7 @@ pub mod guards;
 pub mod model;
 pub mod places;
 pub mod plain;
+pub mod recording;
 pub mod runs;
 pub mod show;
 pub mod shrink;

@@ -1,5 +1,5 @@
 //! Many sequences on several workers. A sequence is made from its seed alone, so that it is the same on every machine and for any number of workers.
-use crate::compare::{Pair, Tried};
+use crate::compare::{Answer, Difference, Pair, Tried};
 use crate::coverage::Coverage;
 use crate::dice::mixed;
 use crate::generate::Generator;
@@ -37,7 +37,7 @@ pub struct Outcome {
 
 impl Job {
     /// The seed of the n-th sequence, None behind the last.
-    fn sequence(&self, n: u64) -> Option<u64> {
+    pub fn sequence(&self, n: u64) -> Option<u64> {
         match self {
             Job::Fixed { seeds, each } => {
                 let count = seeds.len() as u64;
@@ -70,29 +70,36 @@ struct Shared {
     each: Mutex<Vec<(u64, u64)>>,
 }
 
-/// Runs a sequence: how many calls it made, and if they were all alike.
-fn run_sequence(tried: Tried, seed: u64, coverage: &mut Coverage) -> (u64, bool) {
+/// Runs a sequence to its end or to its first difference. `each` is told every step, what came of it, and the two tables after it.
+pub fn walk(tried: Tried, seed: u64, mut each: impl FnMut(Step, Result<Option<Answer>, Difference>, &Pair)) {
     let (mut pair, mut generator) = (Pair::new(tried), Generator::new(seed));
     while let Some(step) = generator.next(pair.table()) {
-        match pair.take(&step) {
-            Ok(Some(answer)) => coverage.count(&answer),
-            Ok(None) => {}
-            Err(_) => return (pair.calls(), false),
-        }
-    }
-    (pair.calls(), true)
-}
-
-/// The steps of a sequence up to its difference.
-pub fn steps(tried: Tried, seed: u64) -> Vec<Step> {
-    let (mut pair, mut generator, mut steps) = (Pair::new(tried), Generator::new(seed), vec![]);
-    while let Some(step) = generator.next(pair.table()) {
-        let differs = pair.take(&step).is_err();
-        steps.push(step);
+        let came = pair.take(&step);
+        let differs = came.is_err();
+        each(step, came, &pair);
         if differs {
             break;
         }
     }
+}
+
+/// Runs a sequence: how many calls it made, and if they were all alike.
+fn run_sequence(tried: Tried, seed: u64, coverage: &mut Coverage) -> (u64, bool) {
+    let (mut calls, mut alike) = (0, true);
+    walk(tried, seed, |_, came, pair| {
+        calls = pair.calls();
+        match came {
+            Ok(answer) => answer.iter().for_each(|answer| coverage.count(answer)),
+            Err(_) => alike = false,
+        }
+    });
+    (calls, alike)
+}
+
+/// The steps of a sequence up to its difference.
+pub fn steps(tried: Tried, seed: u64) -> Vec<Step> {
+    let mut steps = vec![];
+    walk(tried, seed, |step, _, _| steps.push(step));
     steps
 }
 

@@ -105,10 +105,9 @@ fn tell_steps(steps: &[Step]) {
 /// The counts, and if they are as they should be.
 fn covered(coverage: &Coverage, whole: bool) -> bool {
     coverage.lines().iter().for_each(|line| println!("{line}"));
-    let (missing, unlisted) = (if whole { coverage.missing() } else { vec![] }, coverage.unlisted());
-    missing.iter().for_each(|check| println!("NOT REACHED: {check}"));
-    unlisted.iter().for_each(|check| println!("REACHED BUT NOT LISTED: {check}"));
-    missing.is_empty() && unlisted.is_empty()
+    let faults = coverage.faults(whole);
+    faults.iter().for_each(|fault| println!("{fault}"));
+    faults.is_empty()
 }
 
 fn main() {

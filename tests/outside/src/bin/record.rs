@@ -1,0 +1,64 @@
+//! Runs a fixed list of sequences through the archive and the model and writes down each call with its answer, for tests/replay/replay.c.
+use outside::coverage::Coverage;
+use outside::guards;
+use outside::recording::Recording;
+use outside::runs::Job;
+use std::process::exit;
+
+const USAGE: &str = "record FILE                 the fixed list of sequences; every check of the model has to be reached
+    --sequences N           the first N of them, or more
+Ends with 0, with 1 at a difference, a check that no call came to or a file that cannot be written, with 2 for words that it does not know.";
+
+/// A seed whose first sequences reach everything, and how many of them it takes: the fewest that were found among some hundred seeds.
+const SEED: u64 = 377;
+const SEQUENCES: u64 = 250;
+
+struct Options {
+    file: String,
+    /// None for as many as reach everything.
+    sequences: Option<u64>,
+}
+
+fn options(mut words: impl Iterator<Item = String>) -> Option<Options> {
+    let (mut file, mut sequences) = (None, None);
+    while let Some(word) = words.next() {
+        match word.as_str() {
+            "--sequences" => sequences = Some(words.next()?.parse().ok()?),
+            _ if file.is_none() && !word.starts_with('-') => file = Some(word),
+            _ => return None,
+        }
+    }
+    Some(Options { file: file?, sequences })
+}
+
+/// The recorded file and its last line, or what is wrong.
+fn recorded(sequences: Option<u64>) -> Result<(Vec<u8>, String), Vec<String>> {
+    let (mut recording, mut coverage) = (Recording::default(), Coverage::default());
+    let job = Job::Fixed { seeds: &[SEED], each: sequences.unwrap_or(SEQUENCES) };
+    for seed in (0..).map_while(|n| job.sequence(n)) {
+        recording.sequence(guards::run, seed, &mut coverage).map_err(|difference| {
+            [vec![format!("a difference; the steps to it are told by differential --sequence {seed:#x}")], difference.parts].concat()
+        })?;
+    }
+    let faults = coverage.faults(sequences.is_none());
+    let line = recording.line();
+    if faults.is_empty() { Ok((recording.finish(), line)) } else { Err(faults) }
+}
+
+fn main() {
+    let Some(options) = options(std::env::args().skip(1)) else {
+        eprintln!("{USAGE}");
+        exit(2);
+    };
+    let written = recorded(options.sequences).and_then(|(bytes, line)| match std::fs::write(&options.file, bytes) {
+        Ok(()) => Ok(line),
+        Err(fault) => Err(vec![format!("{}: {fault}", options.file)]),
+    });
+    match written {
+        Ok(line) => println!("{line}"),
+        Err(faults) => {
+            faults.iter().for_each(|fault| eprintln!("{fault}"));
+            exit(1);
+        }
+    }
+}
