@@ -7,6 +7,7 @@ use crate::places::{Place, OBJECTS, OBJECT_FIELDS, RECORD_FIELDS};
 use crate::sight::{last, Sight, PAGE};
 use crate::steps::{Damage, Step};
 use crate::wire::{ALLOC, ALLOW, COPY, DESTROY, MAP, RANGES, UNMAP};
+use iommufd::raw::Reserved;
 
 /// How often each kind of call is made: the commands in this order, then bind, attach, detach, reach, charge, fresh.
 const COMMANDS: [u32; 7] = [MAP, COPY, UNMAP, ALLOW, RANGES, ALLOC, DESTROY];
@@ -75,6 +76,8 @@ pub struct Generator {
     begun: bool,
     /// Some sequences do without, so that the alignment stays 1 and nothing is reserved.
     wants_devices: bool,
+    /// Devices that are bound first. Some sequences have many, so that what comes then has the highest ids, up to 32.
+    before: usize,
     /// Calls that are still made before the damaged table is put back.
     damaged: Option<usize>,
 }
@@ -87,11 +90,16 @@ impl Generator {
         let (least, most) = style.steps;
         let left = least + dice.below(most - least);
         let (world, wants_devices) = (dice.one_of(&WORLDS), !dice.chance(4));
-        Generator { dice, style, world, left, begun: false, wants_devices, damaged: None }
+        let before = if dice.chance(8) { OBJECTS - 1 - dice.below(5) } else { 0 };
+        Generator { dice, style, world, left, begun: false, wants_devices, before, damaged: None }
     }
 
     /// The next step on this table, None at the end of the sequence.
     pub fn next(&mut self, lent: &Lent) -> Option<Step> {
+        if self.begun && self.before > 0 {
+            self.before -= 1;
+            return Some(Step::Call(Call::Bind { bitmap: self.dice.one_of(&[1, PAGE]), reserved: Reserved::default() }));
+        }
         self.left = self.left.checked_sub(1)?;
         if !self.begun {
             self.begun = true;

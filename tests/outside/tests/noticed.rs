@@ -54,7 +54,7 @@ fn leaves_its_memory(_: &mut Dice, lent: &mut Lent, call: &mut Call) -> Told {
 
 /// The first sequence of a seed that differs, made short.
 fn found(tried: Tried) -> (Vec<Step>, Vec<String>) {
-    let job = Job::Calls { seed: 7, calls: 60_000 };
+    let job = Job::Calls { seed: 8, calls: 60_000 };
     let found = runs::run(tried, &job, 2, |_, _| {}).found.expect("a slip was not noticed");
     let steps = runs::steps(tried, found.sequence);
     assert!(replay(tried, &steps).is_some());

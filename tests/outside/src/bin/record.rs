@@ -2,20 +2,21 @@
 use outside::coverage::Coverage;
 use outside::guards;
 use outside::recording::Recording;
-use outside::runs::Job;
+use outside::runs::{walk, Job};
 use std::process::exit;
 
-const USAGE: &str = "record FILE                 the fixed list of sequences; every check of the model has to be reached
-    --sequences N           the first N of them, or more
+const USAGE: &str = "record FILE                 sequences of a fixed seed that reach every check of the model
+    --sequences N           the first N of them, whatever they reach
 Ends with 0, with 1 at a difference, a check that no call came to or a file that cannot be written, with 2 for words that it does not know.";
 
-/// A seed whose first sequences reach everything, and how many of them it takes: the fewest that were found among some hundred seeds.
-const SEED: u64 = 377;
-const SEQUENCES: u64 = 250;
+const SEED: u64 = 1;
+/// The first sequences are all recorded, and of those behind them the ones that reach something new, until everything is reached.
+const LEAST: u64 = 200;
+const MOST: u64 = 10_000;
 
 struct Options {
     file: String,
-    /// None for as many as reach everything.
+    /// None for as many as are needed to reach everything.
     sequences: Option<u64>,
 }
 
@@ -31,11 +32,38 @@ fn options(mut words: impl Iterator<Item = String>) -> Option<Options> {
     Some(Options { file: file?, sequences })
 }
 
+/// What a sequence reaches.
+fn reached(seed: u64) -> Coverage {
+    let mut coverage = Coverage::default();
+    walk(guards::run, seed, |_, answer, _| {
+        if let Ok(Some(answer)) = answer {
+            coverage.count(&answer);
+        }
+    });
+    coverage
+}
+
+/// The sequences to record, by their seeds.
+fn chosen(sequences: Option<u64>) -> Vec<u64> {
+    let job = Job::Fixed { seeds: &[SEED], each: sequences.unwrap_or(MOST) };
+    let (mut coverage, mut seeds) = (Coverage::default(), vec![]);
+    for (n, seed) in (0..).map_while(|n| Some((n, job.sequence(n)?))) {
+        let missing = coverage.missing().len();
+        if sequences.is_none() && n >= LEAST && missing == 0 {
+            break;
+        }
+        coverage.add(&reached(seed));
+        if sequences.is_some() || n < LEAST || coverage.missing().len() < missing {
+            seeds.push(seed);
+        }
+    }
+    seeds
+}
+
 /// The recorded file and its last line, or what is wrong.
 fn recorded(sequences: Option<u64>) -> Result<(Vec<u8>, String), Vec<String>> {
     let (mut recording, mut coverage) = (Recording::default(), Coverage::default());
-    let job = Job::Fixed { seeds: &[SEED], each: sequences.unwrap_or(SEQUENCES) };
-    for seed in (0..).map_while(|n| job.sequence(n)) {
+    for seed in chosen(sequences) {
         recording.sequence(guards::run, seed, &mut coverage).map_err(|difference| {
             [vec![format!("a difference; the steps to it are told by differential --sequence {seed:#x}")], difference.parts].concat()
         })?;
