@@ -116,6 +116,8 @@ PLACE = [
     Mutation('candidate: address 0 never', COMMANDS, 'let mut tries = vec![0];', 'let mut tries = vec![alignment];'),
     Mutation('alignment: lowest of the devices', TABLE, '.map(Device::smallest_page).max()', '.map(Device::smallest_page).min()'),
     Mutation('alignment: a page without device', TABLE, '.unwrap_or(1)', '.unwrap_or(PAGE)'),
+    Mutation('alignment: space 32 forgotten', TABLE, 'self.devices_of(space).map(Device::smallest_page)',
+             'self.devices_of(space).filter(|_| space < 32).map(Device::smallest_page)'),
     Mutation('alignment: all devices', TABLE, 'self.devices_of(space).map(', 'self.devices().map('),
     Mutation('reserved: all devices', TABLE, 'self.devices_of(space).flat_map(', 'self.devices().flat_map('),
     Mutation('reserved: first three ranges', TABLE, 'device.reserved.iter().copied()).collect()',
