@@ -1,5 +1,6 @@
 //! The built archive seen from outside: a model of document 01, runs of calls compared with it after every call, and a plain program to measure the archive against.
 pub mod aim;
+pub mod answers;
 pub mod boundary;
 pub mod calls;
 pub mod compare;
@@ -7,6 +8,7 @@ pub mod coverage;
 pub mod dice;
 pub mod generate;
 pub mod guards;
+pub mod machine;
 pub mod model;
 pub mod places;
 pub mod plain;
@@ -16,5 +18,7 @@ pub mod show;
 pub mod shrink;
 pub mod sight;
 pub mod steps;
+pub mod subjects;
+pub mod tables;
 pub mod wire;
 pub mod workloads;

@@ -1,9 +1,10 @@
 //! What is measured: tables of a given number of mappings, and on each a few calls that leave it as it was, so that they can be repeated.
-use crate::calls::{Call, Lent};
+use crate::calls::{Call, Lent, System};
 use crate::plain;
 use iommufd::raw::{Mapping, Reserved};
 use iommufd::request::{COPY, IOAS_ALLOC, MAP, UNMAP};
 use iommufd::{FIXED, READABLE, WRITEABLE};
+use std::hint::black_box;
 
 /// The numbers of mappings that are asked for.
 pub const COUNTS: [usize; 4] = [0, 16, 64, 128];
@@ -94,6 +95,14 @@ impl Job {
         let mut lent = table(shape, workload.standing(asked));
         let calls = calls(workload, &mut lent);
         Job { lent, calls }
+    }
+
+    /// Each call once. What is measured around it holds no frame of this function.
+    #[inline(always)]
+    pub fn round(&mut self, system: System) {
+        for call in &mut self.calls {
+            black_box(system(&mut self.lent, call));
+        }
     }
 
     /// The mappings that stand in the table.

@@ -57,9 +57,7 @@ fn counters() -> [u64; 3] {
 /// What one round of a job adds to the counters.
 fn counted(system: System, job: &mut Job) -> [u64; 3] {
     let before = counters();
-    for call in &mut job.calls {
-        system(&mut job.lent, call);
-    }
+    job.round(system);
     let after = counters();
     std::array::from_fn(|i| after[i] - before[i])
 }

@@ -1,5 +1,5 @@
 //! The bytes that are copied, from the binary `copied` that stands beside this one: it counts what memcpy, memmove and memset do.
-use crate::report::grouped;
+use outside::tables::grouped;
 use std::env;
 use std::process::Command;
 

@@ -12,18 +12,11 @@ const PAINT: u8 = 0xA5;
 /// The bytes below the caller's frame that one round of the job takes, with the frame of the function that hands a call on.
 pub fn taken(system: System, mut job: Job) -> Result<usize, String> {
     let work = move || {
-        round(system, &mut job); // the first may bind symbols
+        job.round(system); // the first may bind symbols
         painted(system, &mut job)
     };
     let thread = thread::Builder::new().stack_size(THREAD).spawn(work).map_err(|e| e.to_string())?;
     thread.join().map_err(|_| "the thread of a stack measurement ended early".to_string())
-}
-
-#[inline(always)]
-fn round(system: System, job: &mut Job) {
-    for call in &mut job.calls {
-        system(&mut job.lent, call);
-    }
 }
 
 #[inline(never)]
@@ -44,7 +37,7 @@ fn painted(system: System, job: &mut Job) -> usize {
             out("rcx") _,
         );
     }
-    round(system, job);
+    job.round(system);
     // SAFETY: the same memory of this thread's stack, which is only read.
     let is_painted = |at: usize| unsafe { (at as *const u8).read_volatile() } == PAINT;
     (top - PAINTED..top).find(|&at| !is_painted(at)).map_or(0, |lowest| top - lowest)

@@ -1,8 +1,8 @@
 //! Batches of calls, timed. The systems take turns batch by batch on the same memory, so that whatever else the machine does hits all alike. The place of table and stack
 //! within a page decides up to a fifth of the time of a program that copies, so that several places are tried.
-use crate::Subject;
-use iommufd::raw::Number;
-use outside::calls::{Call, Lent, System};
+use outside::calls::System;
+use outside::subjects::{nothing, Subject};
+use outside::tables::{grouped, Figure};
 use outside::workloads::{Job, Shape, Workload};
 use std::hint::black_box;
 use std::time::{Duration, Instant};
@@ -14,20 +14,10 @@ const MOST: u32 = 1000;
 /// How many places are tried.
 const PLACES: usize = 8;
 
-/// The nanoseconds of one round of a job: in its fastest batch, and in the middle one.
-#[derive(Clone, Copy)]
-pub struct Time {
-    pub letter: char,
-    pub least: f64,
-    pub median: f64,
-}
-
 fn batch(system: System, job: &mut Job, rounds: u32) -> Duration {
     let start = Instant::now();
     for _ in 0..rounds {
-        for call in &mut job.calls {
-            black_box(system(&mut job.lent, call));
-        }
+        job.round(system);
     }
     start.elapsed()
 }
@@ -57,9 +47,11 @@ impl Series {
         self.samples.push(took.as_nanos() as f64 / f64::from(self.rounds));
     }
 
-    fn time(mut self) -> Time {
+    /// The nanoseconds of one round of a job: in its fastest batch, and in the middle one.
+    fn figure(mut self) -> Figure {
         self.samples.sort_by(f64::total_cmp);
-        Time { letter: self.subject.letter, least: self.samples[0], median: self.samples[self.samples.len() / 2] }
+        let (least, median) = (self.samples[0], self.samples[self.samples.len() / 2]);
+        Figure { letter: self.subject.letter, number: least, text: format!("{} ({})", grouped(least), grouped(median)) }
     }
 }
 
@@ -80,14 +72,14 @@ fn placed(job: &Job) -> Vec<(Vec<u8>, Job)> {
 }
 
 /// Each system gets an equal part of the time at each place, and at least one batch.
-pub fn measure(subjects: &[Subject], mut job: Job, share: Duration) -> Vec<Time> {
+pub fn measure(subjects: &[Subject], mut job: Job, share: Duration) -> Vec<Figure> {
     let mut series: Vec<Series> = subjects.iter().map(|s| Series::new(s, &mut job)).collect();
     let part = share / (subjects.len() * PLACES) as u32;
     for (place, (_, job)) in placed(&job).iter_mut().enumerate() {
         let until = part * (place as u32 + 1);
         deeper(place, &mut || take_turns(&mut series, job, until));
     }
-    series.into_iter().map(Series::time).collect()
+    series.into_iter().map(Series::figure).collect()
 }
 
 /// Batch by batch, until each system has spent its time.
@@ -99,11 +91,8 @@ fn take_turns(series: &mut [Series], job: &mut Job, until: Duration) {
     }
 }
 
-/// What the measuring itself takes: a call that is handed on and does nothing.
+/// What the measuring itself takes.
 pub fn empty() -> f64 {
-    fn nothing(_: &mut Lent, _: &mut Call) -> Number {
-        Number::default()
-    }
     let mut job = Job::new(Workload::Early, Shape::Ascending, 0);
     let least = (0..100).map(|_| batch(black_box(nothing), &mut job, MOST)).min().unwrap_or_default();
     least.as_nanos() as f64 / f64::from(MOST)

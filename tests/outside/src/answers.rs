@@ -1,8 +1,8 @@
 //! Whether the systems give the same answers, so that no wrong program is measured.
-use crate::Subject;
+use crate::calls::{Call, Lent};
+use crate::subjects::{Cell, Subject};
+use crate::workloads::Job;
 use iommufd::raw::Number;
-use outside::calls::{Call, Lent};
-use outside::workloads::Job;
 
 /// After each call of a job: the result, the bytes and the table.
 type Trace = Vec<(Number, Call, Lent)>;
@@ -23,7 +23,7 @@ fn repeats(subject: &Subject, job: &Job, first: &Trace) -> bool {
     kept && trace(subject, &Job { lent: job.lent.clone(), calls }) == *first
 }
 
-pub fn alike(subjects: &[Subject], job: &Job) -> Result<(), String> {
+fn alike(subjects: &[Subject], job: &Job) -> Result<(), String> {
     let first = trace(&subjects[0], job);
     for subject in subjects {
         if trace(subject, job) != first {
@@ -36,20 +36,23 @@ pub fn alike(subjects: &[Subject], job: &Job) -> Result<(), String> {
     Ok(())
 }
 
+pub fn all_alike(subjects: &[Subject], cells: &[Cell]) -> Result<(), String> {
+    for cell in cells {
+        alike(subjects, &cell.job()).map_err(|why| format!("{}: {why}", cell.name()))?;
+    }
+    Ok(())
+}
+
 #[cfg(test)]
 mod tests {
     use super::*;
-    use crate::{CHECKED, TRUSTING};
-    use outside::workloads::{Shape, Workload};
-
-    fn nods(_: &mut Lent, _: &mut Call) -> Number {
-        Number::default()
-    }
+    use crate::subjects::{nothing, CHECKED, TRUSTING};
+    use crate::workloads::{Shape, Workload};
 
     #[test]
     fn a_wrong_system_is_found() {
         let job = Job::new(Workload::Fixed, Shape::Worn, 16);
         assert!(alike(&[CHECKED, TRUSTING], &job).is_ok());
-        assert!(alike(&[CHECKED, Subject { letter: 'x', name: "nods", system: nods }], &job).is_err());
+        assert!(alike(&[CHECKED, Subject { letter: 'x', name: "nothing", system: nothing }], &job).is_err());
     }
 }

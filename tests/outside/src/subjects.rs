@@ -1,0 +1,51 @@
+//! The systems that are measured beside each other, and the calls and tables that they are measured on.
+use crate::calls::{Call, Lent, System};
+use crate::workloads::{Job, Shape, Workload, COUNTS};
+use crate::{boundary, model, plain};
+use iommufd::raw::Number;
+
+/// A system that is measured: its letter, its name and how it is called.
+#[derive(Clone, Copy)]
+pub struct Subject {
+    pub letter: char,
+    pub name: &'static str,
+    pub system: System,
+}
+
+pub const ARCHIVE: Subject = Subject { letter: 'a', name: "archive", system: boundary::run };
+pub const MODEL: Subject = Subject { letter: 'b', name: "model", system: model::run };
+pub const CHECKED: Subject = Subject { letter: 'c', name: "plain, checked", system: plain::checked };
+pub const TRUSTING: Subject = Subject { letter: 'd', name: "plain, trusting", system: plain::trusting };
+
+/// In the order of the columns of a table.
+pub const ALL: [Subject; 4] = [ARCHIVE, MODEL, CHECKED, TRUSTING];
+
+/// A call that is handed on and does nothing: what the measuring itself takes.
+pub fn nothing(_: &mut Lent, _: &mut Call) -> Number {
+    Number::default()
+}
+
+/// What a row of a table is about.
+#[derive(Clone, Copy, Debug, PartialEq, Eq)]
+pub struct Cell {
+    pub shape: Shape,
+    pub workload: Workload,
+    /// The mappings that are asked for.
+    pub count: usize,
+}
+
+impl Cell {
+    pub fn job(&self) -> Job {
+        Job::new(self.workload, self.shape, self.count)
+    }
+
+    pub fn name(&self) -> String {
+        format!("{}, table {}, {} mappings", self.workload.name(), self.shape.name(), self.count)
+    }
+}
+
+/// In the order of the tables.
+pub fn cells(workloads: &[Workload]) -> Vec<Cell> {
+    let rows = |shape| workloads.iter().flat_map(move |&workload| COUNTS.map(|count| Cell { shape, workload, count }));
+    Shape::ALL.into_iter().flat_map(rows).collect()
+}
