@@ -1,7 +1,7 @@
 #!/usr/bin/env python3
 """Plans that reach every refusal of the bench program, with the lines of the model in tests/bench.py.
 
-    benchplans.py           write crates/benchplans/stdin and crates/benchplans/stdout
+    benchplans.py           write crates/test_plans/stdin and crates/test_plans/stdout
     benchplans.py --check   fail where the stored files differ from what this script makes
 
 The input is one plan after another, each after its length as a u32. The output is for each plan the line `plan N`, N from 0, and then what
@@ -709,8 +709,8 @@ all_reached()
 back_and_forth()
 INPUT = b''.join(struct.pack('<I', len(p)) + p for p in plans)
 OUTPUT = ''.join('plan %d\n%s' % (k, text) for k, text in enumerate(texts)).encode()
-assert len(INPUT) <= 2**18, len(INPUT)                                 # what crates/benchplans reads
-store('benchplans', 'benchplans.py', {'stdin': INPUT, 'stdout': OUTPUT},
+assert len(INPUT) <= 2**18, len(INPUT)                                 # what crates/test_plans reads
+store('test_plans', 'benchplans.py', {'stdin': INPUT, 'stdout': OUTPUT},
       '%d plans, %d of them bad, %d commands, %d bytes' % (len(plans), texts.count(BAD), sum(results.values()), len(INPUT)))
 if sys.argv[1:] == []:
     told_checks()

@@ -1,7 +1,7 @@
 #!/usr/bin/env python3
 """Runs of MAP, COPY and UNMAP among the other calls, with the answers of the model.
 
-    mapvectors.py           write crates/mapvectors/stdin and crates/mapvectors/stdout
+    mapvectors.py           write crates/test_mapping/stdin and crates/test_mapping/stdout
     mapvectors.py --check   fail where the stored files differ from what this script makes
 """
 import struct
@@ -666,7 +666,7 @@ for call, named in CHECKS.items():
 NAMES = {'map': model_map, 'copy': model_copy, 'unmap': model_unmap}
 errnos_are({name: set(CHECKS[call].values()) for name, call in NAMES.items()})
 ordered = pinned('mapvectors.py', NAMES)
-store('mapvectors')
+store('mapvectors', 'test_mapping')
 told_counts(NAMES)
 for name, call in NAMES.items():
     print(name + ': ' + '; '.join('%s %d' % (check, checks[call, check, errno]) for check, errno in CHECKS[call].items()))

@@ -320,17 +320,17 @@ def told_counts(names):
     print('broken   ' + '; '.join('%s %d' % p for p in sorted(broken.items())))
 
 
-def store(name):
-    """Write the files of this program; with --check, say which differ and end. From the root of the repository or anywhere else."""
-    folder = os.path.join(os.path.dirname(os.path.abspath(__file__)), '..', 'crates', name)
+def store(script, crate):
+    """Write the files of this script's program; with --check, say which differ and end. From the root of the repository or anywhere else."""
+    folder = os.path.join(os.path.dirname(os.path.abspath(__file__)), '..', 'crates', crate)
     files = {'stdin': b''.join(records), 'stdout': ''.join(line + '\n' for line in lines).encode()}
     assert len(files['stdin']) <= 65536, len(files['stdin'])
     if sys.argv[1:] == ['--check']:
         stale = [p for p, made in files.items() if open(os.path.join(folder, p), 'rb').read() != made]
         for p in stale:
-            print('%s.py: crates/%s/%s is not what this script makes' % (name, name, p))
-        print('%s.py: %d cases' % (name, len(lines)))
+            print('%s.py: crates/%s/%s is not what this script makes' % (script, crate, p))
+        print('%s.py: %d cases' % (script, len(lines)))
         sys.exit(1 if stale else 0)
     for p, made in files.items():
         open(os.path.join(folder, p), 'wb').write(made)
-    print('%s.py: wrote %d cases, %d bytes' % (name, len(lines), len(files['stdin'])))
+    print('%s.py: wrote %d cases, %d bytes' % (script, len(lines), len(files['stdin'])))

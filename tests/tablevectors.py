@@ -1,7 +1,7 @@
 #!/usr/bin/env python3
 """Runs of the calls that place no mapping, with the answers of the model.
 
-    tablevectors.py           write crates/tablevectors/stdin and crates/tablevectors/stdout
+    tablevectors.py           write crates/test_table/stdin and crates/test_table/stdout
     tablevectors.py --check   fail where the stored files differ from what this script makes
 """
 import struct
@@ -710,6 +710,6 @@ CAN = {
 errnos_are({'other': {25, 117}, **{name: can | {0} | ({117} if name != 'fresh' else set()) for name, can in CAN.items()}})
 ordered = pinned('tablevectors.py', {'other': model_unknown, 'bind': model_bind, 'attach': model_attach, 'detach': model_detach, 'reach': model_reach,
                                      'alloc': model_alloc, 'destroy': model_destroy, 'allow': model_allow, 'ranges': model_ranges})
-store('tablevectors')
+store('tablevectors', 'test_table')
 told_counts([*CAN, 'other'])
 print('\n'.join(ordered))

@@ -1,7 +1,7 @@
 #!/usr/bin/env python3
 """Boundary inputs for the ground crates, and the answers worked out here, apart from the Rattle code.
 
-    vectors.py           write crates/vectors/stdin and crates/vectors/stdout
+    vectors.py           write crates/test_ground/stdin and crates/test_ground/stdout
     vectors.py --check   fail where the stored files differ from what this script makes
 
 A record is a u32 operation, a u32 count of bytes and so many bytes; each gives one line. Rules: document 01.
@@ -194,10 +194,10 @@ for n in (1, 2, 32):
 case(99, b'', 'unknown operation')
 
 FILES = {
-    'crates/vectors/stdin': b''.join(records),
-    'crates/vectors/stdout': ''.join(line + '\n' for line in lines).encode(),
+    'crates/test_ground/stdin': b''.join(records),
+    'crates/test_ground/stdout': ''.join(line + '\n' for line in lines).encode(),
 }
-assert len(FILES['crates/vectors/stdin']) <= 65536, len(FILES['crates/vectors/stdin'])
+assert len(FILES['crates/test_ground/stdin']) <= 65536, len(FILES['crates/test_ground/stdin'])
 if sys.argv[1:] == ['--check']:
     stale = [p for p, made in FILES.items() if open(p, 'rb').read() != made]
     for p in stale:
@@ -206,4 +206,4 @@ if sys.argv[1:] == ['--check']:
     sys.exit(1 if stale else 0)
 for p, made in FILES.items():
     open(p, 'wb').write(made)
-print('vectors.py: wrote %d cases, %d bytes' % (len(lines), len(FILES['crates/vectors/stdin'])))
+print('vectors.py: wrote %d cases, %d bytes' % (len(lines), len(FILES['crates/test_ground/stdin'])))

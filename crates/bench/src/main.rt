@@ -6,5 +6,5 @@ fn main() {
     let mut cmd = io::large_buffer();
     let mut area = io::large_buffer();
     let n = io::read_full(0, &mut input);
-    runner::show(&input[..n], &mut cmd, &mut area);
+    plan_run::show(&input[..n], &mut cmd, &mut area);
 }

@@ -16,8 +16,8 @@ use Rattle.blocks.specs.declared.Blocks.{Blocks}
 use Rattle.blocks.specs.Blocked.{rangesFor, blockedFor, blocked}
 use Rattle.placement.specs.declared.Blocked.{Blocked}
 use Rattle.placement.specs.Candidates.{blockedList}
-use Rattle.table.specs.declared.Mapping.{Mapping}
-use Rattle.table.specs.Records.{zeroMapping, ofSpace, extent}
+use Rattle.rules_table.specs.declared.Mapping.{Mapping}
+use Rattle.rules_table.specs.Records.{zeroMapping, ofSpace, extent}
 use Rattle.blocking.specs.Gathering.{listed-on, blockedFor-on, extents-on}
 
 abbrev gathered : ℕ → List ℕ → List ℕ → Blocked

@@ -14,8 +14,8 @@ use Rattle.ranges.specs.declared.Range.{Range}
 use Rattle.ranges.specs.Ranges.{range}
 use Rattle.rangelists.specs.Listed.{places, listed}
 use Rattle.blocks.specs.Blocked.{rangesFor, blockedFor}
-use Rattle.table.specs.declared.Mapping.{Mapping}
-use Rattle.table.specs.Records.{zeroMapping, ofSpace, extent}
+use Rattle.rules_table.specs.declared.Mapping.{Mapping}
+use Rattle.rules_table.specs.Records.{zeroMapping, ofSpace, extent}
 
 -- one more place in the count: its range is the last
 listed-next : (k x l : ℕ) (ss ls : List ℕ) → k < length ss → k < length ls → listed (suc k) (set ss k x) (set ls k l) ≡ listed k ss ls ++ range x l ∷ []

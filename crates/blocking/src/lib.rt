@@ -7,10 +7,10 @@ ghost use Rattle.lists.specs.Tests.{onlyIf};
 ghost use Rattle.lists.specs.Sums.{keep};
 ghost use Rattle.blocks.specs.Blocked.{blocked};
 ghost use Rattle.placement.specs.Candidates.{blockedList};
-ghost use Rattle.table.specs.Records.{ofSpace, extent};
+ghost use Rattle.rules_table.specs.Records.{ofSpace, extent};
 use blocks::Blocks;
 use placement::Blocked;
-use table::Mapping;
+use rules_table::Mapping;
 
 fn one_if(counts: bool) -> usize
     ensures { λ n. ⌜ (n ≡ onlyIf counts 1) × (n ≤ 1) ⌝ }

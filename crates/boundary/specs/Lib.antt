@@ -1,1 +1,1 @@
--- The entries of the archive: what they promise stands in the definitions of lentcalls.
+-- No definitions: what the entries of the archive promise stands in rules_lent.

@@ -1,13 +1,13 @@
 // What a kernel links. Each entry takes any head, any slice of mapping records, any bytes and any numbers, and answers; a slice of another length than 128 records is -117.
 // A refusal writes nothing, but for -90 of IOVA_RANGES. Nobody else writes the table, and one call runs at a time.
-ghost use Rattle.hostcalls.specs.Orders.{bindOrder, attachOrder, detachOrder, reachOrder, chargeOrder};
-ghost use Rattle.raw.specs.Raw.{reservedFrom};
-ghost use Rattle.lentcalls.specs.Entries.{LentCall, Preview, LentHost, LentTold, LentFresh, isWrite};
-use lent::Records;
-use lentcalls::Number;
-use raw::Head;
-use raw::RawReserved;
-use table::Mapping;
+ghost use Rattle.rules_calls.specs.Orders.{bindOrder, attachOrder, detachOrder, reachOrder, chargeOrder};
+ghost use Rattle.rules_table.specs.Layout.{reservedFrom};
+ghost use Rattle.rules_lent.specs.Entries.{LentCall, Preview, LentHost, LentTold, LentFresh, isWrite};
+use rules_lent::Number;
+use rules_lent::Records;
+use rules_table::Head;
+use rules_table::Mapping;
+use rules_table::RawReserved;
 
 // The mapping records of a table.
 const RECORDS: usize = 128;
@@ -23,8 +23,8 @@ pub extern "C" fn iommufd_fresh(h: &mut Head, ms: &mut [Mapping], limit: u64) ->
     if 0x10_0000_0000 < limit {
         return -22;
     }
-    *h = raw::fresh_head(limit);
-    lent::store(ms, Records::Wipe);
+    *h = layout::fresh_head(limit);
+    lent_records::store(ms, Records::Wipe);
     0
 }
 
@@ -42,10 +42,10 @@ pub extern "C" fn iommufd_call(
     if ms.len() != RECORDS {
         return -117;
     }
-    let d = lentcalls::digest(h, iommufd::first_id(request, cmd), iommufd::second_id(cmd));
-    let e = lentcalls::decide_command(heads::limit_of(h), d, ms, request, cmd, area);
-    lentcalls::commit(h, ms, lentcalls::writes_of(e));
-    command::signed_result(e.errno)
+    let d = lent_calls::digest(h, iommufd::first_id(request, cmd), iommufd::second_id(cmd));
+    let e = lent_calls::decide_command(lent_head::limit_of(h), d, ms, request, cmd, area);
+    lent_calls::commit(h, ms, lent_calls::writes_of(e));
+    opening::signed_result(e.errno)
 }
 
 // What the same command would answer now, reply and all; the table stays.
@@ -62,9 +62,9 @@ pub extern "C" fn iommufd_preview(
     if ms.len() != RECORDS {
         return -117;
     }
-    let d = lentcalls::digest(h, iommufd::first_id(request, cmd), iommufd::second_id(cmd));
-    let e = lentcalls::decide_command(heads::limit_of(h), d, ms, request, cmd, area);
-    command::signed_result(e.errno)
+    let d = lent_calls::digest(h, iommufd::first_id(request, cmd), iommufd::second_id(cmd));
+    let e = lent_calls::decide_command(lent_head::limit_of(h), d, ms, request, cmd, area);
+    opening::signed_result(e.errno)
 }
 
 // A new device, loose, with its page sizes and reserved ranges. The result is its id.
@@ -77,10 +77,10 @@ pub extern "C" fn iommufd_bind(
 ) -> i32
     ensures { λ r. ⌜ LentHost (now (h .entry)) (now (ms .entry)) (bindOrder bitmap (reservedFrom reserved)) r (now (h .exit)) (now (ms .exit)) ⌝ }
 {
-    lentcalls::change(
+    lent_calls::change(
         h,
         ms,
-        hostcalls::bind_order(bitmap, raw::reserved_from(reserved)),
+        host_calls::bind_order(bitmap, layout::reserved_from(reserved)),
     )
 }
 
@@ -88,14 +88,14 @@ pub extern "C" fn iommufd_bind(
 pub extern "C" fn iommufd_attach(h: &mut Head, ms: &mut [Mapping], device: u32, space: u32) -> i32
     ensures { λ r. ⌜ LentHost (now (h .entry)) (now (ms .entry)) (attachOrder device space) r (now (h .exit)) (now (ms .exit)) ⌝ }
 {
-    lentcalls::change(h, ms, hostcalls::attach_order(device, space))
+    lent_calls::change(h, ms, host_calls::attach_order(device, space))
 }
 
 #[no_mangle]
 pub extern "C" fn iommufd_detach(h: &mut Head, ms: &mut [Mapping], device: u32) -> i32
     ensures { λ r. ⌜ LentHost (now (h .entry)) (now (ms .entry)) (detachOrder device) r (now (h .exit)) (now (ms .exit)) ⌝ }
 {
-    lentcalls::change(h, ms, hostcalls::detach_order(device))
+    lent_calls::change(h, ms, host_calls::detach_order(device))
 }
 
 // The memory that a device gets to at an address: for reading where `write` is 0, else for writing.
@@ -110,10 +110,10 @@ pub extern "C" fn iommufd_reach(
 ) -> Number
     ensures { λ n. ⌜ LentTold (now (h .entry)) (now (ms .entry)) (reachOrder device address length (isWrite write)) n ⌝ }
 {
-    lentcalls::look(
+    lent_calls::look(
         h,
         ms,
-        hostcalls::reach_order(device, address, length, write != 0),
+        host_calls::reach_order(device, address, length, write != 0),
     )
 }
 
@@ -122,5 +122,5 @@ pub extern "C" fn iommufd_reach(
 pub extern "C" fn iommufd_charge(h: &Head, ms: &[Mapping]) -> Number
     ensures { λ n. ⌜ LentTold (now (h .entry)) (now (ms .entry)) chargeOrder n ⌝ }
 {
-    lentcalls::look(h, ms, hostcalls::charge_order())
+    lent_calls::look(h, ms, host_calls::charge_order())
 }

@@ -4,12 +4,12 @@ use mathlib.Core.Path.{_≡_, sym, ap, subst, _∙_}
 use mathlib.Core.List.{List, map}
 use native.Mathlib.Omega.{arith}
 use lib.ListN.{length, getD, length-map}
-use Rattle.table.specs.declared.Object.{Object}
-use Rattle.table.specs.Records.{zeroObject, freeObject, objectAt}
+use Rattle.rules_table.specs.declared.Object.{Object}
+use Rattle.rules_table.specs.Records.{zeroObject, freeObject, objectAt}
 use Rattle.table.specs.Replaced.{objectAt-place, objectAt-past}
-use Rattle.raw.specs.declared.RawObject.{RawObject}
-use Rattle.raw.specs.Raw.{zeroRaw, decoded, encoded}
-use Rattle.raw.specs.Laws.{decoded-at, same-objects}
+use Rattle.rules_table.specs.declared.RawObject.{RawObject}
+use Rattle.rules_table.specs.Layout.{zeroRaw, decoded, encoded}
+use Rattle.layout.specs.Laws.{decoded-at, same-objects}
 use Rattle.digests.specs.declared.Digest.{Digest}
 use Rattle.digests.specs.Digest.{DigestOf}
 

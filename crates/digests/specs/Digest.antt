@@ -6,10 +6,10 @@ use mathlib.Core.List.{List}
 use lib.ListN.{length}
 use Rattle.lists.specs.Search.{any}
 use Rattle.rangelists.specs.Listed.{found}
-use Rattle.table.specs.declared.Object.{Object}
-use Rattle.table.specs.Records.{objectAt, attachedTo}
-use Rattle.table.specs.Spaces.{alignment}
-use Rattle.table.specs.Charge.{freeRecord}
+use Rattle.rules_table.specs.declared.Object.{Object}
+use Rattle.rules_table.specs.Records.{objectAt, attachedTo}
+use Rattle.rules_table.specs.Spaces.{alignment}
+use Rattle.rules_table.specs.Charge.{freeRecord}
 use Rattle.table.specs.Checked.{objectsOk}
 use Rattle.objects.specs.Pages.{Pages}
 use Rattle.facts.specs.Gathered.{Gathered}

@@ -4,14 +4,14 @@ ghost use mathlib.Core.List.{List, map};
 ghost use mathlib.Core.Path.{_≡_};
 ghost use Prim.Native.Nat.{_-_, _≤_, _<_};
 ghost use lib.ListN.{length, getD};
-ghost use Rattle.table.specs.declared.Object.{Object};
-ghost use Rattle.table.specs.Records.{zeroObject, objectAt};
-ghost use Rattle.raw.specs.Raw.{decoded};
+ghost use Rattle.rules_table.specs.declared.Object.{Object};
+ghost use Rattle.rules_table.specs.Records.{zeroObject, objectAt};
+ghost use Rattle.rules_table.specs.Layout.{decoded};
 ghost use Rattle.digests.specs.Digest.{DigestOf};
 use blocks::Blocks;
 use rangelists::Found;
-use raw::RawObject;
-use table::Object;
+use rules_table::Object;
+use rules_table::RawObject;
 
 // Whether the objects are good. If so: the two objects that a call names, whether a device is attached to the first, the alignment of the first, the lowest free record,
 // the alignment of each space by its id, and the reserved ranges of all attached devices.
@@ -85,9 +85,9 @@ pub fn digest_raw(rs: [RawObject; 32], a: u32, b: u32) -> Digest
     }
     let blocks = facts::blocks_of(rs);
     let i = place_of(a);
-    let first = object_if(a, raw::decode(rs[i]));
+    let first = object_if(a, layout::decode(rs[i]));
     let j = place_of(b);
-    let second = object_if(b, raw::decode(rs[j]));
+    let second = object_if(b, layout::decode(rs[j]));
     let free = p.free;
     let pages = p.pages;
     Digest {
@@ -106,5 +106,5 @@ pub fn digest_raw(rs: [RawObject; 32], a: u32, b: u32) -> Digest
 pub fn digest_of(os: [Object; 32], a: u32, b: u32) -> Digest
     ensures { λ d. ⌜ DigestOf os a b d ⌝ }
 {
-    digest_raw(raw::encode_all(os), a, b)
+    digest_raw(layout::encode_all(os), a, b)
 }

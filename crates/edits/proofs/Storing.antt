@@ -8,19 +8,19 @@ use lib.IntN.{ℤ, pos}
 use lib.ListN.{length, set, replicate}
 use lib.Seq.{set-out}
 use borrow.Author.Tests.{le-leb, lt-leb, lt-ltb, le-ltb}
-use Rattle.command.specs.Results.{result}
+use Rattle.rules_calls.specs.Results.{result}
 use Rattle.ranges.specs.declared.Range.{Range}
 use Rattle.ranges.specs.Ranges.{U64MAX, range}
-use Rattle.table.specs.declared.Object.{Object}
-use Rattle.table.specs.declared.Mapping.{Mapping}
-use Rattle.table.specs.declared.Table.{Table}
-use Rattle.table.specs.Records.{zeroMapping, freeObject, freshTable, ofSpace, within}
-use Rattle.table.specs.Cleared.{release, release-same, within-all}
-use Rattle.edits.specs.declared.Change.the-variants.{Nothing, Put, Drop, Map, Clear}
-use Rattle.edits.specs.declared.Answer.{Answer}
-use Rattle.edits.specs.declared.Edit.{Edit}
-use Rattle.edits.specs.Edits.{putObject, dropSpace, putMapping, clearInside, changed, applied}
-use Rattle.edits.specs.Answers.{refusedBy, idOr, freshAnswer}
+use Rattle.rules_table.specs.declared.Object.{Object}
+use Rattle.rules_table.specs.declared.Mapping.{Mapping}
+use Rattle.rules_table.specs.declared.Table.{Table}
+use Rattle.rules_table.specs.Records.{zeroMapping, freeObject, freshTable, ofSpace, within, release}
+use Rattle.table.specs.Cleared.{release-same, within-all}
+use Rattle.rules_calls.specs.declared.Change.the-variants.{Nothing, Put, Drop, Map, Clear}
+use Rattle.rules_calls.specs.declared.Answer.{Answer}
+use Rattle.rules_calls.specs.declared.Edit.{Edit}
+use Rattle.rules_calls.specs.Edits.{putObject, dropSpace, putMapping, clearInside, changed, applied}
+use Rattle.rules_calls.specs.Answers.{refusedBy, idOr, freshAnswer}
 
 module _ (t : Table) (i : ℕ) where
   pub put-past : (n : Object) → length (t .objects) ≡ 32 → 32 ≤ i → t ≡ putObject t i n

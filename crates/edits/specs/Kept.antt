@@ -15,25 +15,25 @@ use Rattle.lists.specs.Search.{any, all, seek-some-lt, seek-some-at}
 use Rattle.lists.specs.Each.{Each, Each-of, Each-map, Each-zip}
 use Rattle.ranges.specs.Ranges.{share}
 use Rattle.alignment.specs.Multiples.{fits}
-use Rattle.table.specs.declared.Object.{Object}
-use Rattle.table.specs.declared.Mapping.{Mapping}
-use Rattle.table.specs.declared.Table.{Table}
-use Rattle.table.specs.declared.Kind.{Kind}
-use Rattle.table.specs.declared.Kind.the-variants.{Free, Space, Device}
-use Rattle.table.specs.Records.{freeObject, isFree, isSpace, spaceAt, attachedTo, used, ofSpace, extent}
-use Rattle.table.specs.Spaces.{pageFor, reservedFor}
-use Rattle.table.specs.Charge.{charge, freeRecord}
-use Rattle.table.specs.Good.{deviceNames, deviceValid, listValid, listClear, objectZero, noDevice, noList, reservedRest, allowRest}
+use Rattle.rules_table.specs.declared.Object.{Object}
+use Rattle.rules_table.specs.declared.Mapping.{Mapping}
+use Rattle.rules_table.specs.declared.Table.{Table}
+use Rattle.rules_table.specs.declared.Kind.{Kind}
+use Rattle.rules_table.specs.declared.Kind.the-variants.{Free, Space, Device}
+use Rattle.rules_table.specs.Records.{freeObject, isFree, isSpace, spaceAt, attachedTo, used, ofSpace, extent, release}
+use Rattle.rules_table.specs.Spaces.{pageFor, reservedFor}
+use Rattle.rules_table.specs.Charge.{charge, freeRecord}
+use Rattle.rules_table.specs.Good.{deviceNames, deviceValid, listValid, listClear, objectZero, noDevice, noList, reservedRest, allowRest}
 use Rattle.wire.specs.Fields.{zeros}
 use Rattle.table.specs.Checked.{objectOk, recordOk}
 use Rattle.table.specs.Sound.{Sound}
 use Rattle.table.specs.Facts.{UsedOk, record-used, used-record, record-free, zero-record}
 use Rattle.table.specs.Replaced.{Hosts, objects-replaced, hosts-none, none-attached, objectAt-place, spaceAt-set-other}
 use Rattle.table.specs.Moved.{used-replaced, Quiet, quiet-reserved, quiet-fits}
-use Rattle.table.specs.Cleared.{release, release-true, release-false, release-once, release-agree}
+use Rattle.table.specs.Cleared.{release-true, release-false, release-once, release-agree}
 use Rattle.table.specs.Charged.{release-charge}
-use Rattle.edits.specs.declared.Edit.{Edit}
-use Rattle.edits.specs.Edits.{settle, placed, putObject, dropSpace, applied}
+use Rattle.rules_calls.specs.declared.Edit.{Edit}
+use Rattle.rules_calls.specs.Edits.{settle, placed, putObject, dropSpace, applied}
 
 -- a released object keeps the rules of objects
 pub free-ok : (os : List Object) → objectOk os freeObject ≡ true

@@ -15,18 +15,19 @@ use Rattle.lists.specs.Sums.{sumOf, countOf}
 use Rattle.lists.specs.Update.{sumOf-set}
 use Rattle.ranges.specs.declared.Range.{Range}
 use Rattle.ranges.specs.Ranges.{holds, share, share-of, inside}
-use Rattle.table.specs.declared.Mapping.{Mapping}
-use Rattle.table.specs.declared.Table.{Table}
-use Rattle.table.specs.Records.{zeroMapping, used, ofSpace, extent, touches, within}
-use Rattle.table.specs.Charge.{charge}
+use Rattle.rules_table.specs.declared.Mapping.{Mapping}
+use Rattle.rules_table.specs.declared.Table.{Table}
+use Rattle.rules_table.specs.Records.{zeroMapping, used, ofSpace, extent, touches, within, release, covers}
+use Rattle.rules_table.specs.Charge.{charge}
 use Rattle.table.specs.Checked.{recordOk}
-use Rattle.table.specs.Sound.{covers, Backing, Agree, Sound}
+use Rattle.table.specs.Sound.{Backing, Agree, Sound}
 use Rattle.table.specs.Facts.{UsedOk, used-record}
-use Rattle.table.specs.Once.{countOf-none}
-use Rattle.table.specs.Cleared.{release, release-records, release-agree, release-once}
-use Rattle.edits.specs.Edits.{putMapping, clearInside}
+use Rattle.lists.specs.Counting.{countOf-none}
+use Rattle.table.specs.Cleared.{release-records, release-agree, release-once}
+use Rattle.rules_calls.specs.Edits.{putMapping, clearInside}
 use Rattle.edits.specs.Kept.{charge-less}
-use Rattle.edits.specs.Untouched.{onlyOf, Untouched, map-onlyOf}
+use Rattle.edits.specs.Untouched.{map-onlyOf}
+use Rattle.rules_table.specs.Untouched.{onlyOf, Untouched}
 
 -- ---- a mapping is put into a released record
 

@@ -1,7 +1,7 @@
--- "A call on one space changes no mapping, list or device of another" (document 01), as a relation between the tables before and after.
+-- Laws of what an edit leaves untouched: an object that is replaced, mappings that are released, a new object in a free record.
 use Prim.Native.Nat.{ℕ, zero, suc, _+_}
 use mathlib.Core.Path.{_≡_, refl, sym, _∙_}
-use mathlib.Core.Bool.{Bool, true, false, cond}
+use mathlib.Core.Bool.{Bool, true, false}
 use mathlib.Core.List.{List, [], _∷_, map}
 use mathlib.Core.Option.{Option, none, some}
 use native.Mathlib.Numerals.{add-one}
@@ -10,29 +10,18 @@ use lib.ListN.{getD}
 use lib.Seq.{map-set-same}
 use borrow.Author.Tests.{eqb-true}
 use Rattle.lists.specs.Tests.{by-test, contrary}
-use Rattle.table.specs.declared.Object.{Object}
-use Rattle.table.specs.declared.Mapping.{Mapping}
-use Rattle.table.specs.declared.Table.{Table}
-use Rattle.table.specs.Records.{freeObject, zeroMapping, objectAt, spaceAt, attachedTo, ofSpace}
-use Rattle.table.specs.Charge.{freeRecord}
-use Rattle.table.specs.Cleared.{release, release-true, release-false}
+use Rattle.rules_table.specs.declared.Object.{Object}
+use Rattle.rules_table.specs.declared.Mapping.{Mapping}
+use Rattle.rules_table.specs.declared.Table.{Table}
+use Rattle.rules_table.specs.Records.{freeObject, spaceAt, attachedTo, ofSpace, release}
+use Rattle.rules_table.specs.Charge.{freeRecord}
+use Rattle.table.specs.Cleared.{release-true, release-false}
 use Rattle.table.specs.Sound.{Sound}
 use Rattle.table.specs.Replaced.{objectAt-set-other}
-use Rattle.edits.specs.declared.Edit.{Edit}
-use Rattle.edits.specs.Edits.{settle, placed, putObject, dropSpace, applied}
+use Rattle.rules_calls.specs.declared.Edit.{Edit}
+use Rattle.rules_calls.specs.Edits.{settle, placed, putObject, dropSpace, applied}
 use Rattle.edits.specs.Kept.{free-place}
-
--- a record where it is of the space, and a released one where it is not: the records of the space, each in its place
-unfoldable pub onlyOf : ℕ → Mapping → Mapping
-onlyOf s m = cond (ofSpace s m) m zeroMapping
-
-unfoldable pub onlyAt : ℕ → Object → Object
-onlyAt s o = cond (attachedTo s (o .kind)) o freeObject
-
-pub record Untouched (s : ℕ) (t u : Table) : Type 0 where
-  pub mappings : map (onlyOf s) (u .mappings) ≡ map (onlyOf s) (t .mappings)
-  pub itself : objectAt (u .objects) s ≡ objectAt (t .objects) s
-  pub devices : map (onlyAt s) (u .objects) ≡ map (onlyAt s) (t .objects)
+use Rattle.rules_table.specs.Untouched.{onlyOf, onlyAt, Untouched}
 
 pub untouched-same : (s : ℕ) (t : Table) → Untouched s t t
 untouched-same s t = record { mappings = refl; itself = refl; devices = refl }

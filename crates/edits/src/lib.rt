@@ -1,45 +1,25 @@
-// What a call decides, as a small edit, and the one function that applies it.
+// The edit that a call decided, applied to a table by value. Beside it a new object in the lowest free record, and a fresh table.
+use rangelists::Found;
 ghost use mathlib.Core.Bool.{cond};
-ghost use mathlib.Core.List.{map};
+ghost use mathlib.Core.List.{map, List};
 ghost use mathlib.Core.Path.{_≡_};
-ghost use Prim.Native.Nat.{_<_};
-ghost use Rattle.table.specs.Records.{freeObject, newSpace, zeroMapping, within};
-ghost use Rattle.table.specs.Cleared.{release};
-ghost use Rattle.edits.specs.Edits.{refuse, accept, putObject, dropSpace, putMapping, clearInside, applied};
-ghost use Rattle.edits.specs.Answers.{refusedBy, outcome, outcomeId, freshAnswer};
+ghost use Prim.Native.Nat.{_<_, _-_};
+ghost use Rattle.rules_table.specs.Records.{freeObject, newSpace, zeroMapping, within, release};
+ghost use Rattle.rules_calls.specs.Edits.{refuse, accept, putObject, dropSpace, putMapping, clearInside, applied, placed};
+ghost use Rattle.rules_calls.specs.Answers.{refusedBy, outcome, outcomeId, freshAnswer};
+ghost use lib.ListN.{length};
+ghost use Rattle.rangelists.specs.Listed.{found};
+ghost use Rattle.rules_table.specs.Charge.{freeRecord};
 use rangelists::Allowed;
 use rangelists::Reserved;
 use ranges::Range;
-use table::Kind;
-use table::Mapping;
-use table::Object;
-use table::Table;
-
-pub enum Change {
-    Nothing,
-    // The object record at a place becomes the edit's object.
-    Put(usize),
-    // The space at a place is released, and its mappings with it.
-    Drop(usize),
-    // The mapping record at a place becomes this mapping.
-    Map(usize, Mapping),
-    // The mappings of a space that lie wholly inside a range are released.
-    Clear(u32, Range),
-}
-
-// The errno, or 0 with what to change and the number that the reply tells.
-pub struct Edit {
-    pub errno: u8,
-    pub value: u64,
-    pub change: Change,
-    pub object: Object,
-}
-
-// What a call gives back: its result and the table after it.
-pub struct Answer {
-    pub result: i32,
-    pub table: Table,
-}
+use rules_calls::Answer;
+use rules_calls::Change;
+use rules_calls::Edit;
+use rules_table::Kind;
+use rules_table::Mapping;
+use rules_table::Object;
+use rules_table::Table;
 
 // A released object record.
 pub fn free_object() -> Object
@@ -214,7 +194,7 @@ pub fn refused(t: Table, errno: u8) -> Answer
     ensures { λ a. ⌜ a ≡ refusedBy t errno ⌝ }
 {
     Answer {
-        result: command::signed_result(errno),
+        result: opening::signed_result(errno),
         table: t,
     }
 }
@@ -226,7 +206,7 @@ pub fn settled(t: Table, e: Edit) -> Answer
     let errno = e.errno;
     let table = apply(t, e);
     Answer {
-        result: command::signed_result(errno),
+        result: opening::signed_result(errno),
         table,
     }
 }
@@ -241,12 +221,12 @@ pub fn settled_id(t: Table, e: Edit) -> Answer
     let table = apply(t, e);
     if errno != 0 {
         return Answer {
-            result: command::signed_result(errno),
+            result: opening::signed_result(errno),
             table,
         };
     }
     Answer {
-        result: command::id_result(id),
+        result: opening::id_result(id),
         table,
     }
 }
@@ -276,4 +256,24 @@ pub fn fresh(limit: u64) -> Answer
         return refused(table, 22);
     }
     Answer { result: 0, table }
+}
+
+// A new object in the lowest free record.
+pub fn place_new(free: Found, object: Object) -> Edit
+    ensures { λ e. ⌜ ((os : List Object) → length os ≡ 32 → free ≡ found (freeRecord os) → e ≡ placed (freeRecord os) object) ⌝ }
+{
+    let Found::At(i) = free else {
+        return refusal(12);
+    };
+    if 32 <= i {
+        return refusal(12);
+    }
+    acceptance((i + 1) as u64, Change::Put(i), object)
+}
+
+// The record of an id; 0 for an id that no record has.
+pub fn slot_of(id: u32) -> usize
+    ensures { λ i. ⌜ i ≡ id - 1 ⌝ }
+{
+    if id == 0 { 0 } else { (id - 1) as usize }
 }

@@ -13,9 +13,9 @@ use Rattle.ranges.specs.declared.Range.{Range}
 use Rattle.ranges.specs.Ranges.{range, share, share-comm, span}
 use Rattle.blocks.specs.declared.Blocks.{Blocks}
 use Rattle.blocks.specs.Blocked.{blocked, leftFor, left-start, left-here, left-other, left-end}
-use Rattle.table.specs.declared.Mapping.{Mapping}
-use Rattle.table.specs.Records.{used, ofSpace, extent, touches}
-use Rattle.table.specs.Good.{whenUsed, clearOf}
+use Rattle.rules_table.specs.declared.Mapping.{Mapping}
+use Rattle.rules_table.specs.Records.{used, ofSpace, extent, touches}
+use Rattle.rules_table.specs.Good.{whenUsed, clearOf}
 use Rattle.facts.specs.Clear.{strikes}
 
 -- ---- one record against one block

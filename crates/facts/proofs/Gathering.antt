@@ -14,15 +14,15 @@ use Rattle.ranges.specs.Ranges.{range}
 use Rattle.rangelists.specs.declared.Reserved.{Reserved}
 use Rattle.rangelists.specs.Listed.{places, listed, reserved, zeroRange, length-listed, getD-listed}
 use Rattle.blocks.specs.Blocked.{rangesFor, blockedFor, blocked, blockedFor-snoc}
-use Rattle.table.specs.declared.Attachment.the-variants.{Loose, Attached}
-use Rattle.table.specs.declared.Kind.{Kind}
-use Rattle.table.specs.declared.Kind.the-variants.{Free, Space, Device}
-use Rattle.table.specs.declared.Object.{Object}
-use Rattle.table.specs.Records.{zeroObject, isAttached, homeOf, attachedTo}
-use Rattle.table.specs.Spaces.{reservedFor, reservedOf}
-use Rattle.raw.specs.declared.RawObject.{RawObject}
-use Rattle.raw.specs.Raw.{zeroRaw, decoded}
-use Rattle.raw.specs.Laws.{decoded-at}
+use Rattle.rules_table.specs.declared.Attachment.the-variants.{Loose, Attached}
+use Rattle.rules_table.specs.declared.Kind.{Kind}
+use Rattle.rules_table.specs.declared.Kind.the-variants.{Free, Space, Device}
+use Rattle.rules_table.specs.declared.Object.{Object}
+use Rattle.rules_table.specs.Records.{zeroObject, isAttached, homeOf, attachedTo}
+use Rattle.rules_table.specs.Spaces.{reservedFor, reservedOf}
+use Rattle.rules_table.specs.declared.RawObject.{RawObject}
+use Rattle.rules_table.specs.Layout.{zeroRaw, decoded}
+use Rattle.layout.specs.Laws.{decoded-at}
 use Rattle.facts.specs.Gathered.{Gathered, placesFor, reservedOf-next}
 
 -- a count by the kind

@@ -7,11 +7,11 @@ use Rattle.lists.specs.Search.{all, all-cong}
 use Rattle.ranges.specs.declared.Range.{Range}
 use Rattle.blocks.specs.declared.Blocks.{Blocks}
 use Rattle.blocks.specs.Blocked.{blocked}
-use Rattle.table.specs.declared.Object.{Object}
-use Rattle.table.specs.declared.Mapping.{Mapping}
-use Rattle.table.specs.Records.{used, touches}
-use Rattle.table.specs.Spaces.{reservedOf}
-use Rattle.table.specs.Good.{whenUsed, clearOf}
+use Rattle.rules_table.specs.declared.Object.{Object}
+use Rattle.rules_table.specs.declared.Mapping.{Mapping}
+use Rattle.rules_table.specs.Records.{used, touches}
+use Rattle.rules_table.specs.Spaces.{reservedOf}
+use Rattle.rules_table.specs.Good.{whenUsed, clearOf}
 use Rattle.facts.specs.Gathered.{Gathered}
 
 -- a record in use that is of space s and shares an address with r

@@ -9,10 +9,10 @@ use Rattle.lists.specs.Tests.{onlyIf}
 use Rattle.ranges.specs.declared.Range.{Range}
 use Rattle.blocks.specs.declared.Blocks.{Blocks}
 use Rattle.blocks.specs.Blocked.{blocked}
-use Rattle.table.specs.declared.Kind.{Kind}
-use Rattle.table.specs.declared.Object.{Object}
-use Rattle.table.specs.Records.{zeroObject, isAttached}
-use Rattle.table.specs.Spaces.{reservedFor, reservedOf}
+use Rattle.rules_table.specs.declared.Kind.{Kind}
+use Rattle.rules_table.specs.declared.Object.{Object}
+use Rattle.rules_table.specs.Records.{zeroObject, isAttached}
+use Rattle.rules_table.specs.Spaces.{reservedFor, reservedOf}
 
 -- the blocks are, space by space, what the objects reserve
 pub record Gathered (os : List Object) (b : Blocks) : Type 0 where

@@ -6,16 +6,16 @@ ghost use Prim.Native.Nat.{_≤_};
 ghost use lib.ListN.{length};
 ghost use Rattle.lists.specs.Search.{all};
 ghost use Rattle.blocks.specs.Blocked.{blocked};
-ghost use Rattle.table.specs.Good.{whenUsed, clearOf};
-ghost use Rattle.raw.specs.Raw.{decoded};
+ghost use Rattle.rules_table.specs.Good.{whenUsed, clearOf};
+ghost use Rattle.rules_table.specs.Layout.{decoded};
 ghost use Rattle.facts.specs.Gathered.{Gathered, placesFor};
 ghost use Rattle.facts.specs.Clear.{strikes};
 use blocks::Blocks;
 use rangelists::Reserved;
 use ranges::Range;
-use raw::RawObject;
-use table::Kind;
-use table::Mapping;
+use rules_table::Kind;
+use rules_table::Mapping;
+use rules_table::RawObject;
 
 // How many ranges of an object's list are reserved somewhere: those in use where it is an attached device, else none.
 fn places(k: Kind, l: Reserved) -> usize
@@ -38,7 +38,7 @@ pub fn blocks_of(rs: [RawObject; 32]) -> Blocks
     let mut n: usize = 0;
     let mut i: usize = 0;
     while i < 32 {
-        let o = raw::decode(rs[i]);
+        let o = layout::decode(rs[i]);
         let k = o.kind;
         let l = o.reserved;
         let s = table::home_of(k);

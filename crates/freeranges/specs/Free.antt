@@ -300,8 +300,3 @@ ends-below low (g ∷ gs) s f = (
 
 pub freeFrom-fits : (x : ℕ) (rs : List Range) → Each (λ g. g .last < U64END) (freeFrom x rs)
 freeFrom-fits x rs = ends-below x (freeFrom x rs) (spaced-freeFrom x rs) (λ a t. run-below x U64END a (and-left (run x U64END a) (not (held rs a)) (sym (held-freeFrom a x rs) ∙ t)))
-
--- no range ends past the last address
-pub free-fits : (rs : List Range) → Each (λ g. g .last < U64END) (freeRanges rs)
-unfolding freeRanges
-free-fits rs = freeFrom-fits 0 rs

@@ -10,37 +10,39 @@ use borrow.Author.Tests.{ne-eqb, le-ltb}
 use Rattle.lists.specs.Search.{any}
 use Rattle.rangelists.specs.Listed.{found}
 use Rattle.wire.specs.Fields.{field}
-use Rattle.command.specs.declared.Command.{Command}
-use Rattle.command.specs.declared.Command.the-variants.{Destroy, IoasAlloc, AllowIovas, Copy, IovaRanges, Map, Unmap}
-use Rattle.command.specs.declared.Row.{Row}
-use Rattle.command.specs.declared.Row.the-variants.{Unlisted, Listed}
-use Rattle.command.specs.declared.Opening.{Opening}
-use Rattle.command.specs.declared.Opening.the-variants.{UnknownRequest, NoSizeField, SizeTooSmall, SizePastBytes, TailNotZero, Open}
-use Rattle.command.specs.Requests.{requestOf, lookup}
-use Rattle.command.specs.Opening.{opened, openingErrno}
-use Rattle.command.specs.Opened.{row-number, opened-open}
-use Rattle.command.proofs.Lookups.{listed}
-use Rattle.table.specs.declared.Object.{Object}
-use Rattle.table.specs.declared.Mapping.{Mapping}
-use Rattle.table.specs.declared.Table.{Table}
-use Rattle.table.specs.Records.{isSpace, objectAt, spaceAt, attachedTo}
-use Rattle.table.specs.Charge.{freeRecord}
-use Rattle.table.specs.Good.{good}
+use Rattle.rules_calls.specs.declared.Command.{Command}
+use Rattle.rules_calls.specs.declared.Command.the-variants.{Destroy, IoasAlloc, AllowIovas, Copy, IovaRanges, Map, Unmap}
+use Rattle.rules_calls.specs.declared.Row.{Row}
+use Rattle.rules_calls.specs.declared.Row.the-variants.{Unlisted, Listed}
+use Rattle.rules_calls.specs.declared.Opening.{Opening}
+use Rattle.rules_calls.specs.declared.Opening.the-variants.{UnknownRequest, NoSizeField, SizeTooSmall, SizePastBytes, TailNotZero, Open}
+use Rattle.rules_calls.specs.Requests.{requestOf, lookup}
+use Rattle.rules_calls.specs.Opening.{opened, openingErrno}
+use Rattle.opening.specs.Opened.{row-number, opened-open}
+use Rattle.opening.proofs.Lookups.{listed}
+use Rattle.rules_table.specs.declared.Object.{Object}
+use Rattle.rules_table.specs.declared.Mapping.{Mapping}
+use Rattle.rules_table.specs.declared.Table.{Table}
+use Rattle.rules_table.specs.Records.{isSpace, objectAt, spaceAt, attachedTo}
+use Rattle.rules_table.specs.Charge.{freeRecord}
+use Rattle.rules_table.specs.Good.{good}
 use Rattle.facts.specs.Gathered.{Gathered}
-use Rattle.edits.specs.declared.Edit.{Edit}
-use Rattle.edits.specs.Edits.{refuse}
-use Rattle.edits.specs.declared.Answer.{Answer}
-use Rattle.edits.specs.Answers.{outcome, replied}
+use Rattle.rules_calls.specs.declared.Edit.{Edit}
+use Rattle.rules_calls.specs.Edits.{refuse}
+use Rattle.rules_calls.specs.declared.Answer.{Answer}
+use Rattle.rules_calls.specs.Answers.{outcome, replied}
 use Rattle.digests.specs.declared.Digest.{Digest}
 use Rattle.digests.specs.Digest.{Seen, DigestOf}
-use Rattle.tablecheck.specs.Gate.{tableWith, gateErrno}
-use Rattle.spaces.specs.Objects.{allocEdit, destroyEdit}
-use Rattle.spaces.specs.Allow.{allowEdit}
-use Rattle.spacecalls.specs.Calls.{allocCall, allocBytes, RangesDone}
-use Rattle.spacecalls.proofs.Replying.{ranges-gated, ranges-answered}
-use Rattle.mappingcalls.specs.Calls.{mapDecided, mapCall, mapBytes, copyDecided, copyCall, copyBytes, unmapDecided, unmapCall, unmapBytes}
-use Rattle.iommufd.specs.Door.{rowDone, commandDone, callDone}
-use Rattle.iommufd.specs.Deciding.{firstId, secondId, commandIn, commandEdit, rowEdit, callEdit, Decided, call-edit}
+use Rattle.rules_calls.specs.Gate.{tableWith, gateErrno}
+use Rattle.rules_calls.specs.Objects.{allocEdit, destroyEdit, allocCall, allocBytes}
+use Rattle.rules_calls.specs.Allow.{allowEdit}
+use Rattle.cmd_space_bytes.specs.Replied.{RangesDone}
+use Rattle.cmd_space_bytes.proofs.Replying.{ranges-gated, ranges-answered}
+use Rattle.rules_calls.specs.Unmap.{unmapDecided, unmapCall, unmapBytes}
+use Rattle.rules_calls.specs.Copy.{copyDecided, copyCall, copyBytes}
+use Rattle.rules_calls.specs.Map.{mapDecided, mapCall, mapBytes}
+use Rattle.rules_calls.specs.Call.{rowDone, commandDone, callDone, commandEdit, rowEdit, callEdit}
+use Rattle.iommufd.specs.Deciding.{firstId, secondId, commandIn, Decided, call-edit}
 
 -- what is left by a command itself
 abbrev Left : Command → Table → List ℕ → List ℕ → Edit → List ℕ → List ℕ → Type 0

@@ -6,21 +6,24 @@ use mathlib.Core.List.{List}
 use lib.Dec.{eqb, ltb}
 use lib.ListN.{length}
 use Rattle.wire.specs.Fields.{field}
-use Rattle.command.specs.declared.Command.{Command}
-use Rattle.command.specs.declared.Command.the-variants.{Destroy, IoasAlloc, AllowIovas, Copy, IovaRanges, Map, Unmap}
-use Rattle.command.specs.declared.Row.{Row}
-use Rattle.command.specs.declared.Row.the-variants.{Unlisted, Listed}
-use Rattle.command.specs.declared.Opening.{Opening}
-use Rattle.command.specs.declared.Opening.the-variants.{UnknownRequest, NoSizeField, SizeTooSmall, SizePastBytes, TailNotZero, Open}
-use Rattle.command.specs.Requests.{lookup}
-use Rattle.table.specs.declared.Table.{Table}
-use Rattle.edits.specs.declared.Edit.{Edit}
-use Rattle.edits.specs.Edits.{refuse, applied}
-use Rattle.edits.specs.Answers.{refusedBy, outcome}
-use Rattle.tablecheck.specs.Gate.{gateErrno}
-use Rattle.spacecalls.specs.Calls.{allocCall, allocAnswer, destroyCall, destroyAnswer, allowCall, allowAnswer, rangesCall, rangesResult}
-use Rattle.mappingcalls.specs.Calls.{mapCall, mapAnswer, copyCall, copyAnswer, unmapCall, unmapAnswer}
-use Rattle.iommufd.specs.Door.{rowDone, callDone}
+use Rattle.rules_calls.specs.declared.Command.{Command}
+use Rattle.rules_calls.specs.declared.Command.the-variants.{Destroy, IoasAlloc, AllowIovas, Copy, IovaRanges, Map, Unmap}
+use Rattle.rules_calls.specs.declared.Row.{Row}
+use Rattle.rules_calls.specs.declared.Row.the-variants.{Unlisted, Listed}
+use Rattle.rules_calls.specs.declared.Opening.{Opening}
+use Rattle.rules_calls.specs.declared.Opening.the-variants.{UnknownRequest, NoSizeField, SizeTooSmall, SizePastBytes, TailNotZero, Open}
+use Rattle.rules_calls.specs.Requests.{lookup}
+use Rattle.rules_table.specs.declared.Table.{Table}
+use Rattle.rules_calls.specs.declared.Edit.{Edit}
+use Rattle.rules_calls.specs.Edits.{applied}
+use Rattle.rules_calls.specs.Answers.{refusedBy, outcome}
+use Rattle.rules_calls.specs.Ranges.{rangesResult}
+use Rattle.rules_calls.specs.Allow.{allowAnswer}
+use Rattle.rules_calls.specs.Objects.{allocAnswer, destroyAnswer}
+use Rattle.rules_calls.specs.Unmap.{unmapAnswer}
+use Rattle.rules_calls.specs.Copy.{copyAnswer}
+use Rattle.rules_calls.specs.Map.{mapAnswer}
+use Rattle.rules_calls.specs.Call.{rowDone, callDone, rowEdit, callEdit}
 
 -- the ids that a command names, as far as its bytes are lent: MAP and COPY have the space at offset 8, the others an id at 4; COPY has its source at 12
 abbrev pub firstId : ℕ → List ℕ → ℕ
@@ -37,23 +40,6 @@ commandIn SizeTooSmall = Destroy
 commandIn SizePastBytes = Destroy
 commandIn TailNotZero = Destroy
 commandIn (Open c) = c
-
--- IOVA_RANGES changes nothing: its edit carries the errno alone
-abbrev pub commandEdit : Command → Table → List ℕ → List ℕ → Edit
-commandEdit Destroy t bytes area = destroyCall t bytes
-commandEdit IoasAlloc t bytes area = allocCall t bytes
-commandEdit AllowIovas t bytes area = allowCall t bytes area
-commandEdit Copy t bytes area = copyCall t bytes
-commandEdit IovaRanges t bytes area = refuse (rangesCall t bytes area)
-commandEdit Map t bytes area = mapCall t bytes
-commandEdit Unmap t bytes area = unmapCall t bytes
-
-abbrev pub rowEdit : Row → Table → ℕ → List ℕ → List ℕ → Edit
-rowEdit Unlisted t request bytes area = refuse (gateErrno t request bytes)
-rowEdit (Listed c size) t request bytes area = commandEdit c t bytes area
-
-unfoldable pub callEdit : Table → ℕ → List ℕ → List ℕ → Edit
-callEdit t request bytes area = rowEdit (lookup request) t request bytes area
 
 -- what deciding leaves: the edit, the command bytes, the range area
 pub record Decided (t : Table) (request : ℕ) (bytes area : List ℕ) (e : Edit) (bytes′ area′ : List ℕ) : Type 0 where

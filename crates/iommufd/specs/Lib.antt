@@ -1,3 +1,2 @@
--- The interface of the whole: one door for the commands, and the host calls beside it.
-pub mod Door
+-- What deciding a command leaves, and that its answer is that edit, applied. The door itself stands in rules_calls.
 pub mod Deciding

@@ -1,25 +1,27 @@
 // The interface of the whole. Six operations on a table; nobody else writes it, and one call runs at a time. Each answers for any table, any bytes and any numbers, and ends.
-// What each gives back is one equation with a definition; `specs/` says what the definitions mean, and the README by which theorem.
+// What each gives back is one equation with a definition of the rules; README.md names the theorems that say what the definitions mean.
 ghost use mathlib.Core.List.{List};
 ghost use mathlib.Core.Path.{_≡_};
 ghost use lib.ListN.{length};
-ghost use Rattle.table.specs.declared.Object.{Object};
-ghost use Rattle.table.specs.Good.{good};
-ghost use Rattle.edits.specs.Answers.{freshAnswer};
+ghost use Rattle.rules_table.specs.declared.Object.{Object};
+ghost use Rattle.rules_table.specs.Good.{good};
+ghost use Rattle.rules_calls.specs.Answers.{freshAnswer};
 ghost use Rattle.digests.specs.Digest.{DigestOf, Digested};
-ghost use Rattle.tablecheck.specs.Gate.{tableWith};
-ghost use Rattle.hostcalls.specs.Calls.{bindCall, attachCall, detachCall, reachCall};
-ghost use Rattle.iommufd.specs.Door.{callDone};
+ghost use Rattle.rules_calls.specs.Gate.{tableWith};
+ghost use Rattle.rules_calls.specs.Reach.{reachCall};
+ghost use Rattle.rules_calls.specs.Attach.{attachCall, detachCall};
+ghost use Rattle.rules_calls.specs.Bind.{bindCall};
+ghost use Rattle.rules_calls.specs.Call.{callDone};
 ghost use Rattle.iommufd.specs.Deciding.{firstId, secondId, commandIn, Decided};
-use command::Command;
-use command::Opening;
 use digests::Digest;
-use edits::Answer;
-use edits::Edit;
-use hostcalls::Reached;
 use rangelists::Reserved;
-use table::Mapping;
-use table::Table;
+use rules_calls::Answer;
+use rules_calls::Command;
+use rules_calls::Edit;
+use rules_calls::Opening;
+use rules_calls::Reached;
+use rules_table::Mapping;
+use rules_table::Table;
 
 // An empty table with a charge limit in pages. Above 2^36 the result is -22, and every call on the table beside it answers -117.
 pub fn fresh(limit: u64) -> Answer
@@ -50,7 +52,7 @@ pub fn first_id(request: u32, cmd: &[u8]) -> u32
     if cmd.len() < 12 {
         return wire::read32(cmd, 4);
     }
-    if command::either(request == 0x3B83, request == 0x3B85) {
+    if checks::either(request == 0x3B83, request == 0x3B85) {
         return wire::read32(cmd, 8);
     }
     wire::read32(cmd, 4)
@@ -94,29 +96,29 @@ pub fn decide(
     if !tablecheck::is_good(limit, d, ms) {
         return edits::refusal(117);
     }
-    let opening = command::open(request, cmd);
-    let errno = command::opening_errno(opening);
+    let opening = opening::open(request, cmd);
+    let errno = opening::opening_errno(opening);
     if errno != 0 {
         return edits::refusal(errno);
     }
     let first = d.first;
     let c = command_in(opening);
     match c {
-        Command::Destroy => spaces::decide_destroy(first, d.held, wire::read32(cmd, 4)),
+        Command::Destroy => cmd_space::decide_destroy(first, d.held, wire::read32(cmd, 4)),
         Command::IoasAlloc => {
             let free = d.free;
-            spacecalls::alloc(free, cmd)
+            cmd_space_bytes::alloc(free, cmd)
         }
         Command::AllowIovas => {
             let blocks = d.blocks;
-            spacecalls::allow(first, blocks, cmd, area)
+            cmd_space_bytes::allow(first, blocks, cmd, area)
         }
-        Command::Copy => mappingcalls::copy(d, ms, cmd),
-        Command::IovaRanges => spacecalls::ranges(d, cmd, area),
-        Command::Map => mappingcalls::map(limit, d, ms, cmd),
+        Command::Copy => cmd_map_bytes::copy(d, ms, cmd),
+        Command::IovaRanges => cmd_space_bytes::ranges(d, cmd, area),
+        Command::Map => cmd_map_bytes::map(limit, d, ms, cmd),
         Command::Unmap => {
             let k = first.kind;
-            mappingcalls::unmap(table::is_space(k), ms, cmd)
+            cmd_map_bytes::unmap(table::is_space(k), ms, cmd)
         }
     }
 }
@@ -139,24 +141,24 @@ pub fn call(t: Table, request: u32, cmd: &mut [u8], area: &mut [u8]) -> Answer
 pub fn bind(t: Table, bitmap: u64, reserved: Reserved) -> Answer
     ensures { λ a. ⌜ a ≡ bindCall t bitmap reserved ⌝ }
 {
-    hostcalls::bind(t, bitmap, reserved)
+    host_calls::bind(t, bitmap, reserved)
 }
 
 pub fn attach(t: Table, device: u32, space: u32) -> Answer
     ensures { λ a. ⌜ a ≡ attachCall t device space ⌝ }
 {
-    hostcalls::attach(t, device, space)
+    host_calls::attach(t, device, space)
 }
 
 pub fn detach(t: Table, device: u32) -> Answer
     ensures { λ a. ⌜ a ≡ detachCall t device ⌝ }
 {
-    hostcalls::detach(t, device)
+    host_calls::detach(t, device)
 }
 
 // The memory that a device gets to at an address, for reading or writing. The table is only read.
 pub fn reach(t: Table, device: u32, address: u64, length: u64, write: bool) -> Reached
     ensures { λ r. ⌜ r ≡ reachCall t device address length write ⌝ }
 {
-    hostcalls::reach(t, device, address, length, write)
+    host_calls::reach(t, device, address, length, write)
 }

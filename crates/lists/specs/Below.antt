@@ -45,11 +45,6 @@ unfolding sumBelow
 sumBelow-add f g zero = omega arith
 sumBelow-add f g (suc n) = omega (arith, sumBelow-add f g n)
 
-pub sumBelow-at : (f : ℕ → ℕ) (n k : ℕ) → k < n → f k ≤ sumBelow f n
-unfolding sumBelow
-sumBelow-at f zero k h = absurd (not-suc-le-zero h)
-sumBelow-at f (suc n) k h = ⊎-elim (λ e. rw e (omega arith)) (λ l. omega (arith, sumBelow-at f n k l)) (eq-or-lt-of-le (le-of-suc-le-suc h))
-
 -- the two kinds of sum change places
 pub sumOf-sumBelow : {A : Type 0} (f : A → ℕ → ℕ) (xs : List A) (n : ℕ) → sumOf (λ x. sumBelow (f x) n) xs ≡ sumBelow (λ k. sumOf (λ x. f x k) xs) n
 unfolding sumBelow
@@ -78,14 +73,6 @@ sumBelow-some-zero f (suc n) h =
 -- how many numbers below n pass
 unfoldable pub countBelow : ℕ → (ℕ → Bool) → ℕ
 countBelow n p = sumBelow (λ k. onlyIf (p k) 1) n
-
-pub countBelow-zero : (p : ℕ → Bool) → countBelow 0 p ≡ 0
-unfolding countBelow sumBelow
-countBelow-zero p = refl
-
-pub countBelow-suc : (n : ℕ) (p : ℕ → Bool) → countBelow (suc n) p ≡ onlyIf (p n) 1 + countBelow n p
-unfolding countBelow sumBelow
-countBelow-suc n p = refl
 
 pub countBelow-cong : (n : ℕ) (p q : ℕ → Bool) → ((k : ℕ) → k < n → p k ≡ q k) → countBelow n p ≡ countBelow n q
 unfolding countBelow

@@ -1,15 +1,13 @@
 -- A rule as a list of checks in order: the answer is that of the first check that fires, or `ok` where none does.
 -- What an accepted call may rely on comes by the place of a check: `passed`.
-use Prim.Native.Nat.{ℕ, zero, suc, _+_, _≤_, _<_}
-use mathlib.Core.Path.{_≡_, refl, sym, ap, _∙_}
-use mathlib.Core.Bool.{Bool, true, false}
+use Prim.Native.Nat.{ℕ, zero, suc, _<_}
+use mathlib.Core.Path.{_≡_, refl, sym, _∙_}
+use mathlib.Core.Bool.{Bool, true, false, not}
 use mathlib.Core.List.{List, [], _∷_, _++_}
-use mathlib.Core.Option.{none, some}
 use native.Mathlib.Nat.{le-of-suc-le-suc, not-suc-le-zero}
-use native.Mathlib.Omega.{arith}
 use lib.ListN.{length, getD}
-use Rattle.lists.specs.Tests.{by-test, contrary, or-not-left, or-not-right}
-use Rattle.lists.specs.Search.{any, all, seek, seek-cons-true, seek-cons-false, seek-some-lt}
+use Rattle.lists.specs.Tests.{by-test}
+use Rattle.lists.specs.Search.{any}
 use Rattle.lists.specs.Each.{Each}
 
 pub record Check (A : Type 0) : Type 0 where
@@ -20,6 +18,10 @@ module _ {A : Type 0} where
   -- «where b, the answer is a»
   abbrev pub when : Bool → A → Check A
   when b a = record { fires = b; answer = a }
+
+  -- no check fires
+  abbrev pub allPass : List (Check A) → Bool
+  allPass cs = not (any (λ c. c .fires) cs)
 
   unfoldable pub first : List (Check A) → A → A
   first [] ok = ok
@@ -71,15 +73,6 @@ module _ {A : Type 0} where
       at zero h t rec = t
       at (suc j) h t rec = rec j (le-of-suc-le-suc h)
 
-  -- and where each check passed, the outcome is ok
-  pub first-ok : (cs : List (Check A)) (ok : A) → any (λ c. c .fires) cs ≡ false → first cs ok ≡ ok
-  unfolding first any
-  first-ok [] ok e = refl
-  first-ok (c ∷ cs) ok e =
-      by-test (c .fires)
-      (λ t. contrary (c .fires) t (or-not-left (c .fires) (any (λ c. c .fires) cs) e))
-      (λ t. first-passes c cs ok t ∙ first-ok cs ok (or-not-right (c .fires) (any (λ c. c .fires) cs) e))
-
   -- a list of checks that refused refuses whatever comes after it
   pub first-stays : (cs : List (Check A)) (ok n r : A) → n ≡ first cs ok → (n ≡ ok → ⊥) → n ≡ first cs r
   unfolding first
@@ -97,17 +90,3 @@ module _ {A : Type 0} where
       by-test (c .fires)
       (λ t. absurd (h .0 (sym (e ∙ first-fires c cs ok t))))
       (λ t. first-goes cs ok r (h .1) (e ∙ first-passes c cs ok t) ∙ sym (first-passes c cs r t))
-
-  -- the outcome is the answer of the check at the first place that fires
-  pub first-seek : (cs : List (Check A)) (ok : A) (d : Check A) (i n : ℕ) → seek (λ (c : Check A). c .fires) i cs ≡ some (i + n) → first cs ok ≡ getD cs n d .answer
-  unfolding first seek
-  first-seek [] ok d i n e = let z : _≡_ {A = ℕ} 0 1 = cc in absurd (omega arith)
-  first-seek (c ∷ cs) ok d i n e =
-      by-test (c .fires)
-      (λ t. let f = seek-cons-true (λ (c : Check A). c .fires) i c cs t in let same : i ≡ i + n = cc in let z : n ≡ 0 = omega arith in rw z (first-fires c cs ok t))
-      (λ t. let f = sym (seek-cons-false (λ (c : Check A). c .fires) i c cs t) ∙ e in later n t f (seek-some-lt (λ (c : Check A). c .fires) (i + 1) cs (i + n) f .0) (first-seek cs ok d (i + 1)))
-    where
-      later : (n : ℕ) → c .fires ≡ false → seek (λ (c : Check A). c .fires) (i + 1) cs ≡ some (i + n) → i + 1 ≤ i + n
-          → ((m : ℕ) → seek (λ (c : Check A). c .fires) (i + 1) cs ≡ some (i + 1 + m) → first cs ok ≡ getD cs m d .answer) → first (c ∷ cs) ok ≡ getD (c ∷ cs) n d .answer
-      later zero t f h rec = absurd (omega arith)
-      later (suc m) t f h rec = let s : i + suc m ≡ i + 1 + m = omega arith in first-passes c cs ok t ∙ rec m (f ∙ ap some s)

@@ -2,9 +2,8 @@
 use Prim.Native.Nat.{ℕ, zero, suc, _<_}
 use mathlib.Core.Path.{_≡_, refl}
 use mathlib.Core.Bool.{Bool, true, false}
-use mathlib.Core.List.{List, [], _∷_, _++_, map}
+use mathlib.Core.List.{List, [], _∷_, map}
 use native.Mathlib.Nat.{le-of-suc-le-suc, not-suc-le-zero}
-use native.Mathlib.Omega.{arith}
 use lib.ListN.{length, getD, set, replicate}
 use Rattle.lists.specs.Tests.{and-left, and-right, and-both, or-not-left, or-not-right, or-neither}
 use Rattle.lists.specs.Search.{any, all}
@@ -30,15 +29,6 @@ module _ {A : Type 0} where
   Each-at P [] d i h e = absurd (not-suc-le-zero h)
   Each-at P (x ∷ xs) d zero h e = e .0
   Each-at P (x ∷ xs) d (suc i) h e = Each-at P xs d i (le-of-suc-le-suc h) (e .1)
-
-  -- place by place
-  pub Each-places : (P : A → Type 0) (xs : List A) (d : A) → ((i : ℕ) → i < length xs → P (getD xs i d)) → Each P xs
-  Each-places P [] d g = tt
-  Each-places P (x ∷ xs) d g = (g 0 (omega arith), Each-places P xs d (λ i h. g (suc i) (omega arith)))
-
-  pub Each-append : (P : A → Type 0) (xs ys : List A) → Each P xs → Each P ys → Each P (xs ++ ys)
-  Each-append P [] ys h k = k
-  Each-append P (x ∷ xs) ys h k = (h .0, Each-append P xs ys (h .1) k)
 
   pub Each-set : (P : A → Type 0) (xs : List A) (i : ℕ) (a : A) → P a → Each P xs → Each P (set xs i a)
   Each-set P [] i a g h = tt

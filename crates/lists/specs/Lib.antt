@@ -7,3 +7,5 @@ pub mod Sums
 pub mod Below
 pub mod Update
 pub mod Checks
+pub mod Ends
+pub mod Counting

@@ -6,8 +6,8 @@ use mathlib.Core.List.{List, [], _∷_}
 use native.Mathlib.Nat.{le-of-suc-le-suc, not-suc-le-zero}
 use native.Mathlib.Omega.{arith}
 use lib.ListN.{length, getD, drop, drop-of-length-le}
-use Rattle.lists.specs.Tests.{by-test, contrary, or-not-left, or-not-right, or-neither, or-other}
-use Rattle.lists.specs.Search.{any, any-none, any-false-at, any-place, drop-turn}
+use Rattle.lists.specs.Tests.{by-test, contrary, or-not-left, or-not-right, or-other}
+use Rattle.lists.specs.Search.{any, any-false-at, any-place, drop-turn}
 
 module _ {A : Type 0} where
   unfoldable pub clashes : (A → A → Bool) → List A → Bool
@@ -17,10 +17,6 @@ module _ {A : Type 0} where
   pub clashes-nil : (p : A → A → Bool) → clashes p [] ≡ false
   unfolding clashes
   clashes-nil p = refl
-
-  pub clashes-cons : (p : A → A → Bool) (x : A) (xs : List A) → clashes p (x ∷ xs) ≡ (any (p x) xs || clashes p xs)
-  unfolding clashes
-  clashes-cons p x xs = refl
 
   -- where none clash, no two places do
   pub clashes-false-at : (p : A → A → Bool) (xs : List A) (d : A) (i j : ℕ) → i < j → j < length xs → clashes p xs ≡ false → p (getD xs i d) (getD xs j d) ≡ false
@@ -39,15 +35,6 @@ module _ {A : Type 0} where
       by-test (any (p x) xs)
       (λ t. let r = any-place (p x) xs d t in (0, suc (r .0), omega arith, omega (arith, r .1), r .2))
       (λ t. let r = clashes-place p xs d (or-other (any (p x) xs) (clashes p xs) e t) in (suc (r .0), suc (r .1), omega (arith, r .2), omega (arith, r .3), r .4))
-
-  -- a narrower test finds less
-  pub clashes-none : (p q : A → A → Bool) (xs : List A) → ((x y : A) → p x y ≡ true → q x y ≡ true) → clashes q xs ≡ false → clashes p xs ≡ false
-  unfolding clashes
-  clashes-none p q [] h e = refl
-  clashes-none p q (x ∷ xs) h e =
-      or-neither (any (p x) xs) (clashes p xs)
-      (any-none (p x) (q x) xs (h x) (or-not-left (any (q x) xs) (clashes q xs) e))
-      (clashes-none p q xs h (or-not-right (any (q x) xs) (clashes q xs) e))
 
   module _ (p : A → A → Bool) (xs : List A) (i : ℕ) {k : Bool} (v : clashes p (drop i xs) ≡ k) where
     pub clashes-found : (d : A) → i < length xs → any (p (getD xs i d)) (drop (i + 1) xs) ≡ true → true ≡ k

@@ -7,10 +7,10 @@ use mathlib.Core.Option.{some}
 use native.Mathlib.Nat.{le-of-suc-le-suc, not-suc-le-zero, suc-mul}
 use native.Mathlib.Omega.{arith}
 use lib.Dec.{ltb}
-use lib.ListN.{length, getD, drop, replicate, drop-of-length-le}
+use lib.ListN.{length, getD, drop, replicate}
 use borrow.Author.Tests.{ltb-true, lt-ltb}
 use Rattle.lists.specs.Tests.{by-test, onlyIf, onlyIf-true, onlyIf-zero}
-use Rattle.lists.specs.Search.{any, any-at, find, find-cons-true, find-cons-false, drop-turn}
+use Rattle.lists.specs.Search.{any, any-at, find, find-cons-true, find-cons-false}
 use Rattle.lists.specs.Each.{Each}
 
 module _ {A : Type 0} where
@@ -57,24 +57,10 @@ module _ {A : Type 0} where
   sumOf-add w v [] = refl
   sumOf-add w v (x ∷ xs) = omega (arith, sumOf-add w v xs)
 
-  pub sumOf-at : (w : A → ℕ) (xs : List A) (d : A) (i : ℕ) → i < length xs → w (getD xs i d) ≤ sumOf w xs
-  unfolding sumOf
-  sumOf-at w [] d i h = absurd (not-suc-le-zero h)
-  sumOf-at w (x ∷ xs) d zero h = omega arith
-  sumOf-at w (x ∷ xs) d (suc i) h = omega (arith, sumOf-at w xs d i (le-of-suc-le-suc h))
-
   pub sumOf-replicate : (w : A → ℕ) (n : ℕ) (a : A) → w a ≡ 0 → sumOf w (replicate n a) ≡ 0
   unfolding sumOf
   sumOf-replicate w zero a e = refl
   sumOf-replicate w (suc n) a e = omega (arith, sumOf-replicate w n a e)
-
-  -- a loop that adds
-  module _ (w : A → ℕ) (xs : List A) (i acc : ℕ) {k : ℕ} (v : acc + sumOf w (drop i xs) ≡ k) where
-    pub sumOf-on : (d : A) (r : ℕ) → i < length xs → r ≡ w (getD xs i d) → acc + r + sumOf w (drop (i + 1) xs) ≡ k
-    sumOf-on d r h e = omega (arith, ap (sumOf w) (drop-turn xs d i h) ∙ sumOf-cons w (getD xs i d) (drop (i + 1) xs))
-
-    pub sumOf-end : length xs ≤ i → acc ≡ k
-    sumOf-end h = omega (arith, ap (sumOf w) (drop-of-length-le xs h) ∙ sumOf-nil w)
 
   -- how many elements pass
   unfoldable pub countOf : (A → Bool) → List A → ℕ

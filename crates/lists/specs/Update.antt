@@ -1,7 +1,7 @@
 -- What a store at one place, and a change of every element, do to each of the above. `set` and `map` are the kit's.
 use Prim.Native.Nat.{ℕ, zero, suc, _+_, _≤_, _<_}
 use mathlib.Core.Path.{_≡_, refl, sym, ap, _∙_}
-use mathlib.Core.Bool.{Bool, true, false, not, _&&_, _||_, cond}
+use mathlib.Core.Bool.{Bool, true, false, _||_, cond}
 use mathlib.Core.List.{List, [], _∷_, map}
 use native.Mathlib.Nat.{le-of-suc-le-suc, not-suc-le-zero}
 use native.Mathlib.Numerals.{add-one}
@@ -11,7 +11,6 @@ use lib.ListN.{length, getD, set, length-map}
 use borrow.Author.Tests.{eq-eqb}
 use Rattle.lists.specs.Tests.{and-left, and-right, and-both, or-not-left, or-not-right, or-neither}
 use Rattle.lists.specs.Search.{any, all}
-use Rattle.lists.specs.Pairs.{clashes}
 use Rattle.lists.specs.Sums.{sumOf}
 
 -- the length of a list from that of its image: how a need speaks of an array of structs
@@ -33,17 +32,6 @@ module _ {A : Type 0} where
   all-set p (x ∷ xs) zero a e f = and-both (p a) (all p xs) f (and-right (p x) (all p xs) e)
   all-set p (x ∷ xs) (suc i) a e f = and-both (p x) (all p (set xs i a)) (and-left (p x) (all p xs) e) (all-set p xs i a (and-right (p x) (all p xs) e) f)
 
-  -- what is stored clashes with none, in either order
-  pub clashes-set : (p : A → A → Bool) (xs : List A) (i : ℕ) (a : A) → clashes p xs ≡ false → any (p a) xs ≡ false → any (λ x. p x a) xs ≡ false → clashes p (set xs i a) ≡ false
-  unfolding clashes any
-  clashes-set p [] i a e f g = refl
-  clashes-set p (x ∷ xs) zero a e f g =
-      or-neither (any (p a) xs) (clashes p xs) (or-not-right (p a x) (any (p a) xs) f) (or-not-right (any (p x) xs) (clashes p xs) e)
-  clashes-set p (x ∷ xs) (suc i) a e f g =
-      or-neither (any (p x) (set xs i a)) (clashes p (set xs i a))
-      (any-set (p x) xs i a (or-not-left (any (p x) xs) (clashes p xs) e) (or-not-left (p x a) (any (λ x. p x a) xs) g))
-      (clashes-set p xs i a (or-not-right (any (p x) xs) (clashes p xs) e) (or-not-right (p a x) (any (p a) xs) f) (or-not-right (p x a) (any (λ x. p x a) xs) g))
-
   -- the weight of what is stored goes in, that of what stood there goes out
   pub sumOf-set : (w : A → ℕ) (xs : List A) (d : A) (i : ℕ) (a : A) → i < length xs → sumOf w (set xs i a) + w (getD xs i d) ≡ sumOf w xs + w a
   unfolding sumOf
@@ -58,16 +46,6 @@ module _ {A B : Type 0} where
   unfolding any
   any-map p f [] = refl
   any-map p f (x ∷ xs) = ap (λ (b : Bool). p (f x) || b) (any-map p f xs)
-
-  pub all-map : (p : B → Bool) (f : A → B) (xs : List A) → all p (map f xs) ≡ all (λ x. p (f x)) xs
-  unfolding all
-  all-map p f [] = refl
-  all-map p f (x ∷ xs) = ap (λ (b : Bool). p (f x) && b) (all-map p f xs)
-
-  pub clashes-map : (p : B → B → Bool) (f : A → B) (xs : List A) → clashes p (map f xs) ≡ clashes (λ x y. p (f x) (f y)) xs
-  unfolding clashes
-  clashes-map p f [] = refl
-  clashes-map p f (x ∷ xs) = rw (any-map (p (f x)) f xs, clashes-map p f xs)
 
   pub sumOf-map : (w : B → ℕ) (f : A → B) (xs : List A) → sumOf w (map f xs) ≡ sumOf (λ x. w (f x)) xs
   unfolding sumOf
@@ -100,12 +78,6 @@ module _ {A : Type 0} where
   mapFirst-end f [] (suc n) h = refl
   mapFirst-end f (x ∷ xs) zero h = absurd (not-suc-le-zero h)
   mapFirst-end f (x ∷ xs) (suc n) h = ap (λ (l : List A). f x ∷ l) (mapFirst-end f xs n (le-of-suc-le-suc h))
-
-  pub length-mapFirst : (f : A → A) (n : ℕ) (xs : List A) → length (mapFirst f n xs) ≡ length xs
-  unfolding mapFirst
-  length-mapFirst f zero xs = refl
-  length-mapFirst f (suc n) [] = refl
-  length-mapFirst f (suc n) (x ∷ xs) = ap suc (length-mapFirst f n xs)
 
   -- ---- a function of numbers with another value at one number
 

@@ -7,10 +7,10 @@ use native.Mathlib.Omega.{arith}
 use lib.ListN.{length, getD, drop}
 use borrow.Author.Tests.{le-leb, lt-leb}
 use Rattle.lists.specs.Search.{all, all-failed, all-on, all-end}
-use Rattle.table.specs.declared.Attachment.{Attachment}
-use Rattle.table.specs.declared.Attachment.the-variants.{Attached}
-use Rattle.table.specs.declared.Object.{Object}
-use Rattle.table.specs.Records.{zeroObject}
+use Rattle.rules_table.specs.declared.Attachment.{Attachment}
+use Rattle.rules_table.specs.declared.Attachment.the-variants.{Attached}
+use Rattle.rules_table.specs.declared.Object.{Object}
+use Rattle.rules_table.specs.Records.{zeroObject}
 use Rattle.table.specs.Checked.{objectOk, objectsOk}
 use Rattle.objects.specs.Judged.{placeBy, namedPlace, fitsBy, judged-ok}
 

@@ -10,10 +10,10 @@ use lib.Seq.{getD-set-same, getD-set-other}
 use borrow.Author.Tests.{le-leb, lt-leb, ltb-true, ltb-false, eqb-true, eqb-false}
 use Rattle.lists.specs.Tests.{by-test}
 use Rattle.lists.specs.Search.{drop-turn}
-use Rattle.table.specs.declared.Attachment.{Attachment}
-use Rattle.table.specs.declared.Attachment.the-variants.{Attached}
-use Rattle.table.specs.declared.Object.{Object}
-use Rattle.table.specs.Records.{zeroObject}
+use Rattle.rules_table.specs.declared.Attachment.{Attachment}
+use Rattle.rules_table.specs.declared.Attachment.the-variants.{Attached}
+use Rattle.rules_table.specs.declared.Object.{Object}
+use Rattle.rules_table.specs.Records.{zeroObject}
 use Rattle.table.specs.Checked.{objectsOk}
 use Rattle.objects.specs.Pages.{Pages, slotBy, slotOf, askOf, asks, asked, asked-page, pageAt-past}
 

@@ -12,15 +12,15 @@ use Rattle.alignment.specs.Highest.{highest, highest-start, highest-on, highest
 use Rattle.rangelists.specs.declared.Found.{Found}
 use Rattle.rangelists.specs.declared.Found.the-variants.{Nothing, At}
 use Rattle.rangelists.specs.Listed.{found}
-use Rattle.table.specs.declared.Kind.{Kind}
-use Rattle.table.specs.declared.Object.{Object}
-use Rattle.table.specs.Records.{zeroObject, isFree, attachedTo}
-use Rattle.table.specs.Spaces.{pageFor, alignment}
-use Rattle.table.specs.Charge.{freeRecord}
+use Rattle.rules_table.specs.declared.Kind.{Kind}
+use Rattle.rules_table.specs.declared.Object.{Object}
+use Rattle.rules_table.specs.Records.{zeroObject, isFree, attachedTo}
+use Rattle.rules_table.specs.Spaces.{pageFor, alignment}
+use Rattle.rules_table.specs.Charge.{freeRecord}
 use Rattle.table.specs.Checked.{objectsOk}
-use Rattle.raw.specs.declared.RawObject.{RawObject}
-use Rattle.raw.specs.Raw.{zeroRaw, decoded}
-use Rattle.raw.specs.Laws.{decoded-at}
+use Rattle.rules_table.specs.declared.RawObject.{RawObject}
+use Rattle.rules_table.specs.Layout.{zeroRaw, decoded}
+use Rattle.layout.specs.Laws.{decoded-at}
 use Rattle.objects.specs.declared.Pass.{Pass}
 use Rattle.objects.specs.Pages.{slotOf, askOf}
 use Rattle.objects.specs.Judged.{namedPlace, fitsBy}

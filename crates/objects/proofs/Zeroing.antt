@@ -11,8 +11,8 @@ use borrow.Author.Tests.{eqb-true, eq-eqb}
 use Rattle.lists.specs.Tests.{by-test, same-test, and-left, and-right, and-both}
 use Rattle.lists.specs.Search.{all, drop-turn, all-cons}
 use Rattle.wire.specs.Fields.{zeros}
-use Rattle.table.specs.declared.Object.{Object}
-use Rattle.table.specs.Good.{reservedRest, allowRest, noDevice, noList}
+use Rattle.rules_table.specs.declared.Object.{Object}
+use Rattle.rules_table.specs.Good.{reservedRest, allowRest, noDevice, noList}
 
 -- no bit of either
 or-none : (a b : ℕ) → bitOr a b ≡ 0 → (a ≡ 0) × (b ≡ 0)

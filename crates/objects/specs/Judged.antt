@@ -8,25 +8,17 @@ use lib.Dec.{leb, eqb}
 use lib.ListN.{length, getD, List·getD-eq-default}
 use borrow.Author.Tests.{leb-true, leb-false, le-leb}
 use Rattle.lists.specs.Tests.{by-test, contrary, and-not-right}
-use Rattle.alignment.specs.Pages.{smallestPage}
-use Rattle.rangelists.specs.Listed.{reserved, allowed, valid, overlap}
-use Rattle.table.specs.declared.Attachment.{Attachment}
-use Rattle.table.specs.declared.Attachment.the-variants.{Loose, Attached}
-use Rattle.table.specs.declared.Kind.{Kind}
-use Rattle.table.specs.declared.Kind.the-variants.{Free, Space, Device}
-use Rattle.table.specs.declared.Object.{Object}
-use Rattle.table.specs.Records.{isSpace, zeroObject, freeObject, objectAt, spaceAt}
-use Rattle.table.specs.Good.{kindNames, deviceBy, listBy, listsTouch, listClearBy, zeroBy, deviceNames, deviceValid, listValid, listClear, objectZero, reservedRest, allowRest, noDevice, noList}
+use Rattle.rangelists.specs.Listed.{reserved, allowed}
+use Rattle.rules_table.specs.declared.Attachment.{Attachment}
+use Rattle.rules_table.specs.declared.Attachment.the-variants.{Loose, Attached}
+use Rattle.rules_table.specs.declared.Kind.{Kind}
+use Rattle.rules_table.specs.declared.Kind.the-variants.{Free, Space, Device}
+use Rattle.rules_table.specs.declared.Object.{Object}
+use Rattle.rules_table.specs.Records.{isSpace, zeroObject, freeObject, objectAt, spaceAt}
+use Rattle.rules_table.specs.Fits.{deviceFits, listFits}
+use Rattle.rules_table.specs.Good.{kindNames, deviceBy, listBy, listsTouch, listClearBy, zeroBy, deviceNames, deviceValid, listValid, listClear, objectZero, reservedRest, allowRest, noDevice, noList}
 use Rattle.table.specs.Checked.{objectOk}
 use Rattle.table.specs.Replaced.{objectAt-place, objectAt-past}
-
--- the fields of a device, as bind takes them
-unfoldable pub deviceFits : Object → Bool
-deviceFits o = not (eqb (o .bitmap) 0) && (leb (smallestPage (o .bitmap)) 4096 && (leb (o .reserved .count) 4 && valid (reserved (o .reserved))))
-
--- the list of a space, as ALLOW_IOVAS takes it
-unfoldable pub listFits : Object → Bool
-listFits o = leb (o .allow .count) 8 && (valid (allowed (o .allow)) && not (overlap (allowed (o .allow))))
 
 -- the device o may be attached to the record h
 unfoldable pub homeFits : Object → Object → Bool
@@ -92,7 +84,7 @@ no-record os = refl
 
 judged-by : (os : List Object) (o : Object) (k : Kind) → length os ≡ 32
     → fitsBy (getD os (namedPlace k) zeroObject) o k ≡ (kindNames os k && (deviceBy o k && (listBy o k && (listClearBy os o k && zeroBy o k))))
-unfolding listFits deviceFits homeFits spaceAt
+unfolding homeFits spaceAt
 judged-by os o Free e = refl
 judged-by os o Space e = refl
 judged-by os o (Device Loose) e = refl

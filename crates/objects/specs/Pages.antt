@@ -12,14 +12,14 @@ use Rattle.lists.specs.Tests.{by-test, contrary, and-left, onlyIf}
 use Rattle.lists.specs.Search.{all-at}
 use Rattle.alignment.specs.Pages.{smallestPage, page-pos}
 use Rattle.alignment.specs.Highest.{highest}
-use Rattle.table.specs.declared.Attachment.{Attachment}
-use Rattle.table.specs.declared.Attachment.the-variants.{Loose, Attached}
-use Rattle.table.specs.declared.Kind.{Kind}
-use Rattle.table.specs.declared.Kind.the-variants.{Free, Space, Device}
-use Rattle.table.specs.declared.Object.{Object}
-use Rattle.table.specs.Records.{isSpace, attachedTo, zeroObject, objectAt, spaceAt}
-use Rattle.table.specs.Spaces.{pageFor, alignment}
-use Rattle.table.specs.Good.{kindNames, deviceNames, deviceValid, listValid, listClear, objectZero}
+use Rattle.rules_table.specs.declared.Attachment.{Attachment}
+use Rattle.rules_table.specs.declared.Attachment.the-variants.{Loose, Attached}
+use Rattle.rules_table.specs.declared.Kind.{Kind}
+use Rattle.rules_table.specs.declared.Kind.the-variants.{Free, Space, Device}
+use Rattle.rules_table.specs.declared.Object.{Object}
+use Rattle.rules_table.specs.Records.{isSpace, attachedTo, zeroObject, objectAt, spaceAt}
+use Rattle.rules_table.specs.Spaces.{pageFor, alignment}
+use Rattle.rules_table.specs.Good.{kindNames, deviceNames, deviceValid, listValid, listClear, objectZero}
 use Rattle.table.specs.Checked.{objectOk, objectsOk, pageAt}
 use Rattle.objects.specs.Judged.{spaceAt-past, spaceAt-place, spaceAt-pos, spaceAt-upto}
 

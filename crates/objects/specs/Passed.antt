@@ -7,11 +7,11 @@ use Rattle.lists.specs.Search.{any}
 use Rattle.rangelists.specs.declared.Found.{Found}
 use Rattle.rangelists.specs.declared.Found.the-variants.{Nothing, At}
 use Rattle.rangelists.specs.Listed.{found}
-use Rattle.table.specs.declared.Kind.{Kind}
-use Rattle.table.specs.declared.Object.{Object}
-use Rattle.table.specs.Records.{isFree, attachedTo}
-use Rattle.table.specs.Spaces.{alignment}
-use Rattle.table.specs.Charge.{freeRecord}
+use Rattle.rules_table.specs.declared.Kind.{Kind}
+use Rattle.rules_table.specs.declared.Object.{Object}
+use Rattle.rules_table.specs.Records.{isFree, attachedTo}
+use Rattle.rules_table.specs.Spaces.{alignment}
+use Rattle.rules_table.specs.Charge.{freeRecord}
 use Rattle.table.specs.Checked.{objectsOk}
 use Rattle.objects.specs.declared.Pass.{Pass}
 use Rattle.objects.specs.Pages.{Pages}

@@ -7,17 +7,18 @@ ghost use Prim.Native.Nat.{_<_};
 ghost use lib.ListN.{drop};
 ghost use Rattle.rangelists.specs.Listed.{reserved, allowed};
 ghost use Rattle.wire.specs.Fields.{zeros};
-ghost use Rattle.table.specs.Good.{reservedRest, allowRest, noDevice, noList};
-ghost use Rattle.table.specs.Spaces.{pageFor};
-ghost use Rattle.raw.specs.Raw.{decoded};
+ghost use Rattle.rules_table.specs.Fits.{deviceFits, listFits};
+ghost use Rattle.rules_table.specs.Good.{reservedRest, allowRest, noDevice, noList};
+ghost use Rattle.rules_table.specs.Spaces.{pageFor};
+ghost use Rattle.rules_table.specs.Layout.{decoded};
 ghost use Rattle.objects.specs.Pages.{slotBy, slotOf, askBy, askOf};
-ghost use Rattle.objects.specs.Judged.{deviceFits, listFits, homeFits, attachFits, fitsBy, placeBy, namedPlace};
+ghost use Rattle.objects.specs.Judged.{homeFits, attachFits, fitsBy, placeBy, namedPlace};
 ghost use Rattle.objects.specs.Passed.{Passed, freeAfter};
 use rangelists::Found;
-use raw::RawObject;
-use table::Attachment;
-use table::Kind;
-use table::Object;
+use rules_table::Attachment;
+use rules_table::Kind;
+use rules_table::Object;
+use rules_table::RawObject;
 
 // Whether the objects are good. If so: whether a device is attached to the space that was asked for, the alignment of that space, the lowest free record, and the alignment of
 // each space by its id, 0 where the id is no space.
@@ -47,7 +48,7 @@ fn reserved_rest(o: Object) -> bool
 {
     let l = o.reserved;
     let n = rangelists::used(l.count, 4);
-    command::both(zero_from(&l.starts, n), zero_from(&l.lasts, n))
+    checks::both(zero_from(&l.starts, n), zero_from(&l.lasts, n))
 }
 
 fn allow_rest(o: Object) -> bool
@@ -55,7 +56,7 @@ fn allow_rest(o: Object) -> bool
 {
     let l = o.allow;
     let n = rangelists::used(l.count, 8);
-    command::both(zero_from(&l.starts, n), zero_from(&l.lasts, n))
+    checks::both(zero_from(&l.starts, n), zero_from(&l.lasts, n))
 }
 
 // Whether what only a device has is zero: with no range in use every place is asked.
@@ -63,8 +64,8 @@ fn no_device(o: Object) -> bool
     ensures { λ b. ⌜ b ≡ noDevice o ⌝ }
 {
     let l = o.reserved;
-    let rest = command::both(zero_from(&l.starts, 0), zero_from(&l.lasts, 0));
-    command::both(o.bitmap == 0, command::both(l.count == 0, rest))
+    let rest = checks::both(zero_from(&l.starts, 0), zero_from(&l.lasts, 0));
+    checks::both(o.bitmap == 0, checks::both(l.count == 0, rest))
 }
 
 // Whether what only a space has is zero.
@@ -72,8 +73,8 @@ fn no_list(o: Object) -> bool
     ensures { λ b. ⌜ b ≡ noList o ⌝ }
 {
     let l = o.allow;
-    let rest = command::both(zero_from(&l.starts, 0), zero_from(&l.lasts, 0));
-    command::both(l.count == 0, rest)
+    let rest = checks::both(zero_from(&l.starts, 0), zero_from(&l.lasts, 0));
+    checks::both(l.count == 0, rest)
 }
 
 // Whether bind takes the fields of a device.
@@ -82,11 +83,11 @@ fn device_valid(o: Object) -> bool
 {
     let l = o.reserved;
     let page = alignment::smallest_page(o.bitmap);
-    command::both(
+    checks::both(
         o.bitmap != 0,
-        command::both(
+        checks::both(
             page <= 4096,
-            command::both(l.count <= 4, rangelists::reserved_valid(l)),
+            checks::both(l.count <= 4, rangelists::reserved_valid(l)),
         ),
     )
 }
@@ -96,9 +97,9 @@ fn list_valid(o: Object) -> bool
     ensures { λ b. ⌜ b ≡ listFits o ⌝ }
 {
     let l = o.allow;
-    command::both(
+    checks::both(
         l.count <= 8,
-        command::both(
+        checks::both(
             rangelists::allowed_valid(l),
             !rangelists::allowed_overlap(l),
         ),
@@ -112,7 +113,7 @@ fn home_good(h: Object, o: Object) -> bool
     let k = h.kind;
     let l = o.reserved;
     let allow = h.allow;
-    command::both(table::is_space(k), !table::lists_touch(l, allow))
+    checks::both(table::is_space(k), !table::lists_touch(l, allow))
 }
 
 // h is the record that the device names, where it names one of the 32.
@@ -121,7 +122,7 @@ fn attach_good(h: Object, o: Object, a: Attachment) -> bool
 {
     match a {
         Attachment::Loose => true,
-        Attachment::Attached(s) => command::both(1 <= s, command::both(s <= 32, home_good(h, o))),
+        Attachment::Attached(s) => checks::both(1 <= s, checks::both(s <= 32, home_good(h, o))),
     }
 }
 
@@ -131,13 +132,13 @@ fn object_good(h: Object, o: Object) -> bool
 {
     let k = o.kind;
     match k {
-        Kind::Free => command::both(no_device(o), no_list(o)),
-        Kind::Space => command::both(list_valid(o), command::both(no_device(o), allow_rest(o))),
-        Kind::Device(a) => command::both(
+        Kind::Free => checks::both(no_device(o), no_list(o)),
+        Kind::Space => checks::both(list_valid(o), checks::both(no_device(o), allow_rest(o))),
+        Kind::Device(a) => checks::both(
             device_valid(o),
-            command::both(
+            checks::both(
                 attach_good(h, o, a),
-                command::both(reserved_rest(o), no_list(o)),
+                checks::both(reserved_rest(o), no_list(o)),
             ),
         ),
     }
@@ -267,10 +268,10 @@ pub fn pass_over(rs: [RawObject; 32], s: u32) -> Pass
     let mut held = false;
     let mut i: usize = 0;
     while i < 32 {
-        let o = raw::decode(rs[i]);
+        let o = layout::decode(rs[i]);
         let k = o.kind;
         let j = named_place(k);
-        let h = raw::decode(rs[j]);
+        let h = layout::decode(rs[j]);
         if !object_good(h, o) {
             return bad_pass();
         }
@@ -280,7 +281,7 @@ pub fn pass_over(rs: [RawObject; 32], s: u32) -> Pass
         pages[slot] = q;
         free = free_after(free, i, k);
         best = ranges::higher(best, page_for(o, s));
-        held = command::either(held, table::attached_to(k, s));
+        held = checks::either(held, table::attached_to(k, s));
         i += 1;
     }
     Pass {

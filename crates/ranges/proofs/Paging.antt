@@ -1,5 +1,5 @@
 -- The pages of a run of bytes, as the code computes them: no sum of memory start and length is made.
-use Prim.Native.Nat.{ℕ, suc, _+_, _-_, _/_, _%_}
+use Prim.Native.Nat.{ℕ, suc, _+_, _/_, _%_}
 use mathlib.Core.Path.{_≡_}
 use native.Mathlib.Omega.{arith}
 use Rattle.ranges.specs.Pages.{pagesTouched}

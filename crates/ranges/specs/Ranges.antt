@@ -102,10 +102,6 @@ module _ (r q : Range) where
       (le-leb (q .start) (r .start) (holds-from q (r .start) (f (r .start) (holds-of r (r .start) (omega arith) h))))
       (le-leb (r .last) (q .last) (holds-upto q (r .last) (f (r .last) (holds-of r (r .last) h (omega arith)))))
 
-  -- what shares with the inner range shares with the outer
-  pub inside-share : (x : Range) → inside r q ≡ true → share r x ≡ true → share q x ≡ true
-  inside-share x e s = let w = share-address r x s in share-of q x (w .0) (inside-holds (w .0) e (w .1)) (w .2)
-
 -- ---- a start and a length
 
 -- start + length - 1 is past U64MAX

@@ -4,9 +4,9 @@ use mathlib.Core.Path.{_≡_, sym, _∙_}
 use mathlib.Core.Bool.{Bool, true, false}
 use native.Mathlib.Omega.{arith}
 use borrow.Author.Tests.{le-leb, lt-leb, eq-eqb, ne-eqb}
-use Rattle.table.specs.declared.Mapping.{Mapping}
-use Rattle.table.specs.Records.{used}
-use Rattle.table.specs.Charge.{mappingPages}
+use Rattle.rules_table.specs.declared.Mapping.{Mapping}
+use Rattle.rules_table.specs.Records.{used}
+use Rattle.rules_table.specs.Charge.{mappingPages}
 use Rattle.table.specs.Checked.{recordAlone}
 use Rattle.records.specs.Alone.{zeroFields, sound, pageRead, alone-released, alone-used}
 use Rattle.records.specs.Pairing.{startAfter}

@@ -9,9 +9,9 @@ use lib.ListN.{length, getD, drop}
 use Rattle.lists.specs.Tests.{by-test, or-neither}
 use Rattle.lists.specs.Search.{any}
 use Rattle.ranges.specs.Ranges.{range, lastOf, span-some}
-use Rattle.table.specs.declared.Mapping.{Mapping}
-use Rattle.table.specs.Records.{used, touches}
-use Rattle.table.specs.Good.{together}
+use Rattle.rules_table.specs.declared.Mapping.{Mapping}
+use Rattle.rules_table.specs.Records.{used, touches}
+use Rattle.rules_table.specs.Good.{together}
 use Rattle.table.specs.Checked.{recordAlone}
 use Rattle.records.specs.Alone.{pageRead, page-at}
 use Rattle.records.specs.Pairing.{startAfter, together-touches, together-released}

@@ -12,13 +12,13 @@ use borrow.Author.Tests.{eqb-true, eqb-false, ne-eqb}
 use Rattle.lists.specs.Tests.{by-test, contrary, or-neither}
 use Rattle.lists.specs.Search.{any, all, all-nil, seek, seek-none, seek-any-false, seek-some-lt, seek-cons-true}
 use Rattle.lists.specs.Pairs.{clashes, clashes-nil}
-use Rattle.table.specs.declared.Mapping.{Mapping}
-use Rattle.table.specs.Records.{zeroMapping}
-use Rattle.table.specs.Charge.{backs, charge}
+use Rattle.rules_table.specs.declared.Mapping.{Mapping}
+use Rattle.rules_table.specs.Records.{zeroMapping}
+use Rattle.rules_table.specs.Charge.{backs, charge}
 use Rattle.table.specs.Charged.{backs-of}
-use Rattle.table.specs.Good.{differ, backingsAgree}
+use Rattle.rules_table.specs.Good.{differ, backingsAgree}
 use Rattle.records.specs.Alone.{numbered, numbered-most}
-use Rattle.records.specs.Ends.{take-turn, all-turn, seek-append-some, seek-append-none, seek-append-other, clashes-append, clashes-at}
+use Rattle.lists.specs.Ends.{take-turn, all-turn, seek-append-some, seek-append-none, seek-append-other, clashes-append, clashes-at}
 use Rattle.records.specs.Charging.{differ-self, agree-first, agree-none, charge-nil, charge-append, chargedOf, leaderPlace, markAfter, addedBy}
 use Rattle.records.specs.declared.Charged.the-variants.{Disagree, Sum}
 

@@ -11,9 +11,9 @@ use borrow.Author.Tests.{eqb-true, eqb-false, ltb-true, ltb-false, not-true}
 use Rattle.lists.specs.Tests.{by-test, contrary, and-left, and-right}
 use Rattle.lists.specs.Pairs.{clashes, clashes-place}
 use Rattle.ranges.specs.Ranges.{U64MAX, lastOf, span, share-address, holds-from, holds-upto}
-use Rattle.table.specs.declared.Mapping.{Mapping}
-use Rattle.table.specs.Records.{zeroMapping, used, extent}
-use Rattle.table.specs.Good.{together}
+use Rattle.rules_table.specs.declared.Mapping.{Mapping}
+use Rattle.rules_table.specs.Records.{zeroMapping, used, extent}
+use Rattle.rules_table.specs.Good.{together}
 use Rattle.records.proofs.Marking.{here}
 
 abbrev pub end : Mapping → ℕ

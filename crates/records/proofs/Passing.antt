@@ -8,9 +8,9 @@ use lib.ListN.{length, getD, set, drop, replicate, length-set, length-replicate}
 use Rattle.lists.specs.Tests.{contrary, and-left, and-right, and-both, and-not-left, and-not-right}
 use Rattle.lists.specs.Search.{all, all-failed, all-on, all-end}
 use Rattle.ranges.specs.Ranges.{U64MAX}
-use Rattle.table.specs.declared.Mapping.{Mapping}
-use Rattle.table.specs.Records.{zeroMapping}
-use Rattle.table.specs.Good.{differ, backingsAgree}
+use Rattle.rules_table.specs.declared.Mapping.{Mapping}
+use Rattle.rules_table.specs.Records.{zeroMapping}
+use Rattle.rules_table.specs.Good.{differ, backingsAgree}
 use Rattle.table.specs.Checked.{recordAlone}
 use Rattle.records.specs.declared.Pass.{Pass}
 use Rattle.records.specs.Alone.{numbered, numbered-of, pageRead}

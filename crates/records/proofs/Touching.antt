@@ -7,8 +7,8 @@ use lib.Dec.{ltb}
 use borrow.Author.Tests.{le-leb, lt-leb, eq-eqb, ne-eqb}
 use Rattle.lists.specs.Tests.{leb-iff}
 use Rattle.ranges.specs.Ranges.{range, share, sharedStart, sharedLast, span, lastOf}
-use Rattle.table.specs.declared.Mapping.{Mapping}
-use Rattle.table.specs.Records.{ofSpace, extent, touches}
+use Rattle.rules_table.specs.declared.Mapping.{Mapping}
+use Rattle.rules_table.specs.Records.{ofSpace, extent, touches}
 
 module _ (s first last : ℕ) (n : Mapping) where
   pub elsewhere : (n .space ≡ s → ⊥) → false ≡ touches s (range first last) n

@@ -8,9 +8,9 @@ use lib.Dec.{leb, eqb}
 use lib.ListN.{length, getD, List·getD-eq-default}
 use borrow.Author.Tests.{eqb-true, leb-true, leb-false}
 use Rattle.lists.specs.Tests.{by-test, and-left, and-right, onlyIf}
-use Rattle.table.specs.declared.Mapping.{Mapping}
-use Rattle.table.specs.Records.{used, canWrite}
-use Rattle.table.specs.Good.{whenUsed, lengthFits, rightsFit, endsFit, alignedTo, mappingZero}
+use Rattle.rules_table.specs.declared.Mapping.{Mapping}
+use Rattle.rules_table.specs.Records.{used, canWrite}
+use Rattle.rules_table.specs.Good.{whenUsed, lengthFits, rightsFit, endsFit, alignedTo, mappingZero}
 use Rattle.table.specs.Checked.{recordAlone}
 
 -- what a released record must be beside its space

@@ -12,13 +12,13 @@ use Rattle.lists.specs.Tests.{by-test, contrary, and-left, and-right, and-not-r
 use Rattle.lists.specs.Search.{any, all, find, seek, any-place, any-none, all-at, find-cons-true, find-cons-false, find-any-true, find-any-false, seek-some-lt, seek-some-at, seek-some-before}
 use Rattle.lists.specs.Pairs.{clashes, clashes-false-at}
 use Rattle.lists.specs.Below.{sumBelow, sumBelow-cong, sumBelow-zero, sumBelow-add, sumBelow-only}
-use Rattle.table.specs.declared.Mapping.{Mapping}
-use Rattle.table.specs.Records.{used, zeroMapping}
-use Rattle.table.specs.Charge.{backs, mappingPages, backingPages, chargeIn, charge}
+use Rattle.rules_table.specs.declared.Mapping.{Mapping}
+use Rattle.rules_table.specs.Records.{used, zeroMapping}
+use Rattle.rules_table.specs.Charge.{backs, mappingPages, backingPages, chargeIn, charge}
 use Rattle.table.specs.Charged.{backs-is, backs-of}
-use Rattle.table.specs.Good.{differ, backingsAgree}
+use Rattle.rules_table.specs.Good.{differ, backingsAgree}
 use Rattle.records.specs.Alone.{numbered, numbered-used, numbered-released, numbered-backed}
-use Rattle.records.specs.Ends.{find-append-some, find-append-none}
+use Rattle.lists.specs.Ends.{find-append-some, find-append-none}
 use Rattle.records.specs.declared.Charged.{Charged}
 use Rattle.records.specs.declared.Charged.the-variants.{Disagree, Sum}
 

@@ -1,6 +1,5 @@
 -- The mapping records as they are checked: each by itself, in pairs, and by their backings.
 pub mod Alone
 pub mod Pairing
-pub mod Ends
 pub mod Charging
 pub mod Passed

@@ -6,9 +6,9 @@ use lib.Dec.{eqb}
 use borrow.Author.Tests.{eqb-true, eq-eqb}
 use Rattle.lists.specs.Tests.{same-test}
 use Rattle.ranges.specs.Ranges.{range, span, lastOf}
-use Rattle.table.specs.declared.Mapping.{Mapping}
-use Rattle.table.specs.Records.{used, ofSpace, extent, touches}
-use Rattle.table.specs.Good.{together}
+use Rattle.rules_table.specs.declared.Mapping.{Mapping}
+use Rattle.rules_table.specs.Records.{used, ofSpace, extent, touches}
+use Rattle.rules_table.specs.Good.{together}
 
 -- where the search for a record that clashes with that at i begins: a released record clashes with none
 unfoldable pub startAfter : ℕ → ℕ → ℕ

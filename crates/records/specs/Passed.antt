@@ -6,9 +6,9 @@ use mathlib.Core.List.{List}
 use lib.ListN.{getD}
 use Rattle.lists.specs.Search.{all}
 use Rattle.lists.specs.Pairs.{clashes}
-use Rattle.table.specs.declared.Mapping.{Mapping}
-use Rattle.table.specs.Charge.{charge}
-use Rattle.table.specs.Good.{together, backingsAgree}
+use Rattle.rules_table.specs.declared.Mapping.{Mapping}
+use Rattle.rules_table.specs.Charge.{charge}
+use Rattle.rules_table.specs.Good.{together, backingsAgree}
 use Rattle.table.specs.Checked.{recordAlone}
 use Rattle.records.specs.declared.Pass.{Pass}
 

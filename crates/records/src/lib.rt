@@ -6,14 +6,14 @@ ghost use Prim.Native.Nat.{_+_, _≤_, _<_, _^_, min};
 ghost use Rattle.lists.specs.Search.{all};
 ghost use Rattle.lists.specs.Pairs.{clashes};
 ghost use Rattle.ranges.specs.Ranges.{U64MAX, range, lastOf};
-ghost use Rattle.table.specs.Records.{touches};
-ghost use Rattle.table.specs.Good.{together, lengthFits, rightsFit, endsFit, differ};
+ghost use Rattle.rules_table.specs.Records.{touches};
+ghost use Rattle.rules_table.specs.Good.{together, lengthFits, rightsFit, endsFit, differ};
 ghost use Rattle.table.specs.Checked.{recordAlone};
 ghost use Rattle.records.specs.Alone.{zeroFields, founded, isNumber, sound, numbered, pageRead};
 ghost use Rattle.records.specs.Pairing.{startAfter};
 ghost use Rattle.records.specs.Charging.{chargedOf, leaderPlace, markAfter, addedBy};
 ghost use Rattle.records.specs.Passed.{Passed};
-use table::Mapping;
+use rules_table::Mapping;
 
 // What the backings of the records come to.
 pub enum Charged {
@@ -34,20 +34,20 @@ pub struct Pass {
 fn length_fits(m: Mapping) -> bool
     ensures { λ b. ⌜ b ≡ lengthFits m ⌝ }
 {
-    command::both(0 < m.length, m.length <= 0x100_0000_0000)
+    checks::both(0 < m.length, m.length <= 0x100_0000_0000)
 }
 
 fn rights_fit(m: Mapping) -> bool
     ensures { λ b. ⌜ b ≡ rightsFit m ⌝ }
 {
-    command::both(0 < m.rights, m.rights <= 3)
+    checks::both(0 < m.rights, m.rights <= 3)
 }
 
 // Neither the addresses nor the memory pass U64MAX.
 fn ends_fit(m: Mapping) -> bool
     ensures { λ b. ⌜ b ≡ endsFit m ⌝ }
 {
-    command::both(
+    checks::both(
         !ranges::passes_max(m.address, m.length),
         !ranges::passes_max(m.memory, m.length),
     )
@@ -57,29 +57,29 @@ fn ends_fit(m: Mapping) -> bool
 fn is_founded(m: Mapping) -> bool
     ensures { λ b. ⌜ b ≡ founded m ⌝ }
 {
-    command::both(
+    checks::both(
         m.founder <= 1,
-        command::either(!table::can_write(m), m.founder == 1),
+        checks::either(!table::can_write(m), m.founder == 1),
     )
 }
 
 fn is_number(backing: u32) -> bool
     ensures { λ b. ⌜ b ≡ isNumber backing ⌝ }
 {
-    command::both(1 <= backing, backing <= 128)
+    checks::both(1 <= backing, backing <= 128)
 }
 
 // A released record holds nothing.
 fn is_zero(m: Mapping) -> bool
     ensures { λ b. ⌜ b ≡ zeroFields m ⌝ }
 {
-    command::both(
+    checks::both(
         m.rights == 0,
-        command::both(
+        checks::both(
             m.founder == 0,
-            command::both(
+            checks::both(
                 m.backing == 0,
-                command::both(m.address == 0, command::both(m.length == 0, m.memory == 0)),
+                checks::both(m.address == 0, checks::both(m.length == 0, m.memory == 0)),
             ),
         ),
     )
@@ -90,12 +90,12 @@ fn is_sound(page: u64, m: Mapping) -> bool
     ensures { λ b. ⌜ b ≡ sound page m ⌝ }
 {
     let fit = alignment::is_fit(page, m.address, m.length);
-    let rest = command::both(fit, command::both(is_founded(m), is_number(m.backing)));
-    command::both(
+    let rest = checks::both(fit, checks::both(is_founded(m), is_number(m.backing)));
+    checks::both(
         page != 0,
-        command::both(
+        checks::both(
             length_fits(m),
-            command::both(rights_fit(m), command::both(ends_fit(m), rest)),
+            checks::both(rights_fit(m), checks::both(ends_fit(m), rest)),
         ),
     )
 }
@@ -208,13 +208,13 @@ fn keeps_order(space: u32, floor: u64, address: u64, last: u64) -> bool
 fn differs(m: Mapping, n: Mapping) -> bool
     ensures { λ b. ⌜ b ≡ differ m n ⌝ }
 {
-    let same = command::both(
+    let same = checks::both(
         m.memory == n.memory,
-        command::both(m.length == n.length, m.founder == n.founder),
+        checks::both(m.length == n.length, m.founder == n.founder),
     );
-    command::both(
+    checks::both(
         m.space != 0,
-        command::both(n.space != 0, command::both(m.backing == n.backing, !same)),
+        checks::both(n.space != 0, checks::both(m.backing == n.backing, !same)),
     )
 }
 
@@ -312,7 +312,7 @@ pub fn pass_over(pages: [u64; 33], ms: [Mapping; 128]) -> Pass
         marks[b] = mark_after(mark, i);
         let last = last_address(m);
         let keeps = keeps_order(m.space, floors[k], m.address, last);
-        ordered = command::both(ordered, keeps);
+        ordered = checks::both(ordered, keeps);
         floors[k] = floor_after(last);
         i += 1;
     }

@@ -5,15 +5,15 @@ use mathlib.Core.Bool.{Bool, _&&_}
 use native.Mathlib.Nat.{div-one}
 use lib.Bits.{bitAnd, and-mask}
 use lib.Dec.{eqb}
-use Rattle.command.specs.Flags.{bit}
+use Rattle.rules_table.specs.Flags.{bit}
 use Rattle.ranges.specs.declared.Range.{Range}
 use Rattle.ranges.specs.Ranges.{span, share, inside}
-use Rattle.table.specs.declared.Attachment.{Attachment}
-use Rattle.table.specs.declared.Attachment.the-variants.{Attached}
-use Rattle.table.specs.declared.Kind.{Kind}
-use Rattle.table.specs.declared.Kind.the-variants.{Device}
-use Rattle.table.specs.declared.Mapping.{Mapping}
-use Rattle.table.specs.Records.{attachedTo, ofSpace, extent, touches, within, canWrite, canRead}
+use Rattle.rules_table.specs.declared.Attachment.{Attachment}
+use Rattle.rules_table.specs.declared.Attachment.the-variants.{Attached}
+use Rattle.rules_table.specs.declared.Kind.{Kind}
+use Rattle.rules_table.specs.declared.Kind.the-variants.{Device}
+use Rattle.rules_table.specs.declared.Mapping.{Mapping}
+use Rattle.rules_table.specs.Records.{attachedTo, ofSpace, extent, touches, within, canWrite, canRead}
 
 pub attached-at : (s h : ℕ) (a : Attachment) (k : Kind) → k ≡ Device a → a ≡ Attached h → eqb h s ≡ attachedTo s k
 attached-at s h a k e f = sym (ap (attachedTo s) (e ∙ ap Device f))

@@ -11,7 +11,7 @@ use Rattle.ranges.specs.Ranges.{range, share}
 use Rattle.rangelists.specs.declared.Reserved.{Reserved}
 use Rattle.rangelists.specs.declared.Found.{Found}
 use Rattle.rangelists.specs.Listed.{reserved, length-listed, getD-listed, zeroRange, isFound, firstTouched, firstTouched-any}
-use Rattle.table.specs.Good.{listsTouch}
+use Rattle.rules_table.specs.Good.{listsTouch}
 
 -- what is left from place i on
 unfoldable pub touchLeft : ℕ → Reserved → List Range → Bool

@@ -16,15 +16,15 @@ use Rattle.lists.specs.Sums.{sumOf-le, countOf}
 use Rattle.lists.specs.Below.{sumBelow, sumBelow-cong, sumBelow-le, sumBelow-zero, sumBelow-some-zero, sumOf-sumBelow, countBelow, countBelow-one, lowest-exists}
 use Rattle.lists.specs.Update.{any-map}
 use Rattle.ranges.specs.Pages.{pagesTouched}
-use Rattle.table.specs.declared.Object.{Object}
-use Rattle.table.specs.declared.Mapping.{Mapping}
-use Rattle.table.specs.Records.{zeroMapping, used}
-use Rattle.table.specs.Charge.{backs, mappingPages, pagesFound, backingPages, chargeIn, freeMapping, freeBacking}
+use Rattle.rules_table.specs.declared.Object.{Object}
+use Rattle.rules_table.specs.declared.Mapping.{Mapping}
+use Rattle.rules_table.specs.Records.{zeroMapping, used, release}
+use Rattle.rules_table.specs.Charge.{backs, mappingPages, pagesFound, backingPages, chargeIn, freeMapping, freeBacking}
 use Rattle.table.specs.Checked.{recordOk}
 use Rattle.table.specs.Sound.{Backing, Shares, Agree}
 use Rattle.table.specs.Facts.{record-free}
-use Rattle.table.specs.Cleared.{release, release-true, release-false, release-records, release-agree}
-use Rattle.table.specs.Once.{countOf-some, countOf-at, countOf-not}
+use Rattle.table.specs.Cleared.{release-true, release-false, release-records, release-agree}
+use Rattle.lists.specs.Counting.{countOf-some, countOf-at, countOf-not}
 
 -- the pages of a backing, by what its mappings share
 unfoldable pub infoPages : Backing → ℕ

@@ -9,12 +9,13 @@ use borrow.Author.Tests.{ne-eqb}
 use native.Mathlib.Omega.{arith}
 use Rattle.lists.specs.Tests.{by-test, same-test, and-left, and-right, and-both}
 use Rattle.lists.specs.Search.{all, all-and}
-use Rattle.table.specs.declared.Object.{Object}
-use Rattle.table.specs.declared.Mapping.{Mapping}
-use Rattle.table.specs.declared.Table.{Table}
-use Rattle.table.specs.Records.{spaceAt, used, canWrite}
-use Rattle.table.specs.Spaces.{alignment, alignment-pos, reservedOf}
-use Rattle.table.specs.Good.{whenUsed, mappingNames, deviceNames, apart, lengthFits, rightsFit, endsFit, clearOf, alignedTo, mappingFits, backingsAgree, writesByRight, deviceValid, listValid, listClear, mappingZero, objectZero, recordsCounted, backingNumber, limitHolds, good}
+use Rattle.rules_table.specs.declared.Object.{Object}
+use Rattle.rules_table.specs.declared.Mapping.{Mapping}
+use Rattle.rules_table.specs.declared.Table.{Table}
+use Rattle.rules_table.specs.Records.{spaceAt, used, canWrite}
+use Rattle.rules_table.specs.Spaces.{alignment, reservedOf}
+use Rattle.table.specs.Aligned.{alignment-pos}
+use Rattle.rules_table.specs.Good.{whenUsed, mappingNames, deviceNames, apart, lengthFits, rightsFit, endsFit, clearOf, alignedTo, mappingFits, backingsAgree, writesByRight, deviceValid, listValid, listClear, mappingZero, objectZero, recordsCounted, backingNumber, limitHolds, good}
 
 -- an object against all the rules of objects: itself and the one record that it names
 unfoldable pub objectOk : List Object → Object → Bool

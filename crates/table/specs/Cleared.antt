@@ -1,7 +1,7 @@
 -- Mapping records that are released: every rule stays, and the charge does not grow.
 use Prim.Native.Nat.{ℕ, _≤_, zero-le}
 use mathlib.Core.Path.{_≡_, refl}
-use mathlib.Core.Bool.{Bool, true, false, cond}
+use mathlib.Core.Bool.{Bool, true, false}
 use mathlib.Core.List.{List, [], _∷_, map}
 use native.Mathlib.Nat.{le-of-eq}
 use native.Mathlib.Omega.{arith}
@@ -11,16 +11,12 @@ use Rattle.lists.specs.Each.{Each, Each-map, Each-of}
 use Rattle.lists.specs.Sums.{countOf, sumOf-le}
 use Rattle.lists.specs.Update.{sumOf-map}
 use Rattle.ranges.specs.Ranges.{U64MAX, range, inside, span, lastOf, lastOf-max}
-use Rattle.table.specs.declared.Object.{Object}
-use Rattle.table.specs.declared.Mapping.{Mapping}
-use Rattle.table.specs.Records.{zeroMapping, used, ofSpace, extent, within}
+use Rattle.rules_table.specs.declared.Object.{Object}
+use Rattle.rules_table.specs.declared.Mapping.{Mapping}
+use Rattle.rules_table.specs.Records.{zeroMapping, used, ofSpace, extent, within, release, covers}
 use Rattle.table.specs.Checked.{recordOk}
-use Rattle.table.specs.Sound.{covers, Backing, Shares, Agree}
+use Rattle.table.specs.Sound.{Backing, Shares, Agree}
 use Rattle.table.specs.Facts.{zero-record}
-
--- a record released where it passes p
-unfoldable pub release : (Mapping → Bool) → Mapping → Mapping
-release p m = cond (p m) zeroMapping m
 
 pub release-true : (p : Mapping → Bool) (m : Mapping) → p m ≡ true → release p m ≡ zeroMapping
 unfolding release

@@ -9,11 +9,11 @@ use Rattle.lists.specs.Tests.{by-test, and-left, and-right, or-left, or-right, 
 use Rattle.lists.specs.Search.{any}
 use Rattle.ranges.specs.Ranges.{share, passes}
 use Rattle.alignment.specs.Multiples.{fits}
-use Rattle.table.specs.declared.Object.{Object}
-use Rattle.table.specs.declared.Mapping.{Mapping}
-use Rattle.table.specs.Records.{spaceAt, zeroMapping, used, extent, canWrite}
-use Rattle.table.specs.Spaces.{alignment, reservedOf}
-use Rattle.table.specs.Good.{whenUsed, mappingNames, lengthFits, rightsFit, endsFit, clearOf, alignedTo, mappingFits, writesByRight, mappingZero, backingNumber}
+use Rattle.rules_table.specs.declared.Object.{Object}
+use Rattle.rules_table.specs.declared.Mapping.{Mapping}
+use Rattle.rules_table.specs.Records.{spaceAt, zeroMapping, used, extent, canWrite}
+use Rattle.rules_table.specs.Spaces.{alignment, reservedOf}
+use Rattle.rules_table.specs.Good.{whenUsed, mappingNames, lengthFits, rightsFit, endsFit, clearOf, alignedTo, mappingFits, writesByRight, mappingZero, backingNumber}
 use Rattle.table.specs.Checked.{recordOk}
 
 pub record UsedOk (os : List Object) (m : Mapping) : Type 0 where

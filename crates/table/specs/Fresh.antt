@@ -10,11 +10,11 @@ use Rattle.lists.specs.Each.{Each-replicate}
 use Rattle.lists.specs.Sums.{countOf, sumOf-replicate}
 use Rattle.lists.specs.Below.{sumBelow}
 use Rattle.wire.specs.Fields.{zeros}
-use Rattle.table.specs.Records.{freeObject, zeroMapping, used, freshTable}
-use Rattle.table.specs.Charge.{backs, backingPages, chargeIn, charge}
-use Rattle.table.specs.Good.{deviceNames, deviceValid, listValid, listClear, objectZero, noDevice, noList, reservedRest, allowRest, good}
+use Rattle.rules_table.specs.Records.{freeObject, zeroMapping, used, freshTable, covers}
+use Rattle.rules_table.specs.Charge.{backs, backingPages, chargeIn, charge}
+use Rattle.rules_table.specs.Good.{deviceNames, deviceValid, listValid, listClear, objectZero, noDevice, noList, reservedRest, allowRest, good}
 use Rattle.table.specs.Checked.{objectOk, objectsOk, recordOk}
-use Rattle.table.specs.Sound.{Shares, covers, good-sound, sound-good}
+use Rattle.table.specs.Sound.{Shares, good-sound, sound-good}
 use Rattle.table.specs.Facts.{zero-record}
 
 fresh-objects : objectsOk (replicate 32 freeObject) ≡ true

@@ -1,9 +1,8 @@
 -- One more mapping in a released record: what it does to the charge. A new backing adds its pages (MAP); a backing that stands adds nothing (COPY).
-use Prim.Native.Nat.{ℕ, zero, suc, _+_, _-_, _≤_, _<_}
+use Prim.Native.Nat.{ℕ, _+_, _-_, _≤_, _<_}
 use mathlib.Core.Path.{_≡_, refl, sym, ap, _∙_}
 use mathlib.Core.Bool.{Bool, true, false, _||_}
-use mathlib.Core.List.{List, [], _∷_}
-use native.Mathlib.Nat.{le-of-suc-le-suc, not-suc-le-zero}
+use mathlib.Core.List.{List}
 use native.Mathlib.Omega.{arith}
 use lib.Dec.{eqb}
 use lib.ListN as ListN
@@ -14,25 +13,14 @@ use Rattle.lists.specs.Search.{any}
 use Rattle.lists.specs.Each.{Each, Each-set, Each-zip, Each-any-false}
 use Rattle.lists.specs.Below.{sumBelow, sumBelow-cong, sumBelow-add, sumBelow-only}
 use Rattle.lists.specs.Update.{upd, upd-same, upd-other}
-use Rattle.table.specs.declared.Object.{Object}
-use Rattle.table.specs.declared.Mapping.{Mapping}
-use Rattle.table.specs.Records.{zeroMapping, used}
-use Rattle.table.specs.Charge.{backs, mappingPages, charge}
+use Rattle.rules_table.specs.declared.Object.{Object}
+use Rattle.rules_table.specs.declared.Mapping.{Mapping}
+use Rattle.rules_table.specs.Records.{zeroMapping, used}
+use Rattle.rules_table.specs.Charge.{backs, mappingPages, charge}
 use Rattle.table.specs.Checked.{recordOk}
 use Rattle.table.specs.Sound.{Backing, backingOf, Shares, Agree}
 use Rattle.table.specs.Charged.{infoPages, shares-pages, charge-info}
-
--- a store where an element stood that does not pass
-pub any-stored : {A : Type 0} (p : A → Bool) (xs : List A) (d : A) (i : ℕ) (a : A) → i < ListN.length xs → p (getD xs i d) ≡ false → any p (set xs i a) ≡ (p a || any p xs)
-unfolding any
-any-stored p [] d i a h e = absurd (not-suc-le-zero h)
-any-stored p (x ∷ xs) d zero a h e = ap (λ (b : Bool). p a || b) (sym (rw e))
-any-stored p (x ∷ xs) d (suc i) a h e = rw (any-stored p xs d i a (le-of-suc-le-suc h) e) (turned (p x) (p a) (any p xs))
-  where
-    turned : (a b c : Bool) → (a || (b || c)) ≡ (b || (a || c))
-    turned true true c = refl
-    turned true false c = refl
-    turned false b c = refl
+use Rattle.lists.specs.Ends.{any-stored}
 
 module _ (ms : List Mapping) (i : ℕ) (m : Mapping) (h : i < ListN.length ms) (free : getD ms i zeroMapping ≡ zeroMapping) where
   -- the backings in use are those before and its own

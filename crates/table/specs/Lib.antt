@@ -1,9 +1,4 @@
--- The table: its records, what a space is made of, the charge, and when a table is good.
-pub mod Records
-pub mod Spaces
-pub mod Charge
-pub mod Good
-pub mod Once
+-- Laws of a good table: of its records, of what a space is made of, of the charge, and what stays true when records change.
 pub mod Checked
 pub mod Sound
 pub mod Facts
@@ -13,3 +8,6 @@ pub mod Cleared
 pub mod Charged
 pub mod Joined
 pub mod Fresh
+pub mod Homes
+pub mod Aligned
+pub mod Fitting

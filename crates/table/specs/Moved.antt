@@ -4,17 +4,18 @@ use mathlib.Core.Path.{_≡_, sym, _∙_}
 use mathlib.Core.Bool.{Bool, true, false}
 use mathlib.Core.List.{List}
 use native.Mathlib.Nat.{mod-one}
-use lib.ListN.{length, set}
+use lib.ListN.{set}
 use Rattle.lists.specs.Search.{any, all, all-and, any-nil}
 use Rattle.lists.specs.Update.{any-set, all-set}
 use Rattle.ranges.specs.declared.Range.{Range}
 use Rattle.ranges.specs.Ranges.{share}
 use Rattle.alignment.specs.Multiples.{multiple, multiple-of, fits}
 use Rattle.alignment.specs.Highest.{highest-multiple}
-use Rattle.table.specs.declared.Object.{Object}
-use Rattle.table.specs.declared.Mapping.{Mapping}
-use Rattle.table.specs.Records.{attachedTo, spaceAt, extent}
-use Rattle.table.specs.Spaces.{pageFor, pageFor-power, alignment, reservedFor, any-reservedOf}
+use Rattle.rules_table.specs.declared.Object.{Object}
+use Rattle.rules_table.specs.declared.Mapping.{Mapping}
+use Rattle.rules_table.specs.Records.{attachedTo, spaceAt, extent}
+use Rattle.rules_table.specs.Spaces.{pageFor, alignment, reservedFor}
+use Rattle.table.specs.Aligned.{pageFor-power, any-reservedOf}
 use Rattle.table.specs.Facts.{UsedOk}
 
 -- a range is aligned in its space exactly if it is aligned to the page of each object

@@ -2,8 +2,8 @@
 use Prim.Native.Nat.{ℕ, zero, suc, _<_}
 use mathlib.Core.Path.{_≡_, refl, sym, ap, _∙_}
 use mathlib.Core.Bool.{Bool, true, false, not, _&&_}
-use mathlib.Core.List.{List, [], _∷_}
-use native.Mathlib.Nat.{le-of-suc-le-suc, not-suc-le-zero}
+use mathlib.Core.List.{List}
+use native.Mathlib.Nat.{le-of-suc-le-suc}
 use lib.Dec.{leb, eqb}
 use lib.ListN.{length, getD, set, List·getD-eq-default}
 use lib.Seq.{getD-set-same, getD-set-other}
@@ -12,19 +12,14 @@ use Rattle.lists.specs.Tests.{by-test, contrary, and-left, and-right}
 use Rattle.lists.specs.Search.{any, all-at, any-place}
 use Rattle.lists.specs.Each.{Each, Each-imp, Each-set, Each-at, Each-zip, Each-all, all-Each, Each-any-false}
 use Rattle.rangelists.specs.Listed.{reserved, allowed}
-use Rattle.table.specs.declared.Attachment.the-variants.{Loose, Attached}
-use Rattle.table.specs.declared.Kind.{Kind}
-use Rattle.table.specs.declared.Kind.the-variants.{Free, Space, Device}
-use Rattle.table.specs.declared.Object.{Object}
-use Rattle.table.specs.Records.{zeroObject, freeObject, isSpace, objectAt, spaceAt, attachedTo}
-use Rattle.table.specs.Good.{kindNames, deviceNames, deviceBy, deviceValid, listBy, listValid, listsTouch, listClearBy, listClear, zeroBy, objectZero}
+use Rattle.rules_table.specs.declared.Attachment.the-variants.{Loose, Attached}
+use Rattle.rules_table.specs.declared.Kind.{Kind}
+use Rattle.rules_table.specs.declared.Kind.the-variants.{Free, Space, Device}
+use Rattle.rules_table.specs.declared.Object.{Object}
+use Rattle.rules_table.specs.Records.{zeroObject, freeObject, isSpace, objectAt, spaceAt, attachedTo}
+use Rattle.rules_table.specs.Good.{kindNames, deviceNames, deviceBy, deviceValid, listBy, listValid, listsTouch, listClearBy, listClear, zeroBy, objectZero}
 use Rattle.table.specs.Checked.{objectOk, objectsOk}
-
--- a read within the list does not look at what is given past its end
-pub getD-any : {A : Type 0} (xs : List A) (i : ℕ) (d e : A) → i < length xs → getD xs i d ≡ getD xs i e
-getD-any [] i d e h = absurd (not-suc-le-zero h)
-getD-any (x ∷ xs) zero d e h = refl
-getD-any (x ∷ xs) (suc i) d e h = getD-any xs i d e (le-of-suc-le-suc h)
+use Rattle.lists.specs.Ends.{getD-any}
 
 -- the object with the id of a place
 pub objectAt-place : (os : List Object) (i : ℕ) (d : Object) → i < length os → objectAt os (suc i) ≡ getD os i d

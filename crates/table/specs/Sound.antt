@@ -13,17 +13,13 @@ use Rattle.lists.specs.Each.{Each, Each-imp, Each-zip, Each-all, all-Each, Each
 use Rattle.lists.specs.Pairs.{clashes}
 use Rattle.lists.specs.Sums.{countOf}
 use Rattle.ranges.specs.Ranges.{holds, share, share-address, share-of}
-use Rattle.table.specs.declared.Mapping.{Mapping}
-use Rattle.table.specs.declared.Table.{Table}
-use Rattle.table.specs.Records.{used, ofSpace, extent}
-use Rattle.table.specs.Charge.{charge}
-use Rattle.table.specs.Good.{together, apart, differ, backingsAgree, recordsCounted, limitHolds, good}
+use Rattle.rules_table.specs.declared.Mapping.{Mapping}
+use Rattle.rules_table.specs.declared.Table.{Table}
+use Rattle.rules_table.specs.Records.{used, ofSpace, extent, covers}
+use Rattle.rules_table.specs.Charge.{charge}
+use Rattle.rules_table.specs.Good.{together, apart, differ, backingsAgree, recordsCounted, limitHolds, good}
 use Rattle.table.specs.Checked.{objectsOk, recordOk, recordsOk, good-grouped}
-use Rattle.table.specs.Once.{clashes-once, once-clashes}
-
--- it is a mapping of space s and holds the address a
-unfoldable pub covers : ℕ → ℕ → Mapping → Bool
-covers s a m = used m && (ofSpace s m && holds (extent m) a)
+use Rattle.lists.specs.Counting.{clashes-once, once-clashes}
 
 -- what the mappings of one backing share
 pub record Backing : Type 0 where

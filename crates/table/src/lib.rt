@@ -1,49 +1,14 @@
-// The records of the table. What a good table is, and what the calls ask of one, stands in specs/.
+// Small tests of a kind, of a mapping and of lists of ranges. The records, and what a good table is, stand in rules_table; specs/ has its laws.
 ghost use mathlib.Core.Path.{_≡_};
 ghost use Rattle.rangelists.specs.Listed.{reserved, allowed};
-ghost use Rattle.table.specs.Records.{isFree, isSpace, isDevice, isAttached, attachedTo, homeOf, touches, within, canWrite, canRead};
-ghost use Rattle.table.specs.Good.{listsTouch};
+ghost use Rattle.rules_table.specs.Records.{isFree, isSpace, isDevice, isAttached, attachedTo, homeOf, touches, within, canWrite, canRead};
+ghost use Rattle.rules_table.specs.Good.{listsTouch};
 use rangelists::Allowed;
 use rangelists::Reserved;
 use ranges::Range;
-
-// Whether a device is attached, and to which space.
-pub enum Attachment {
-    Loose,
-    Attached(u32),
-}
-
-pub enum Kind {
-    Free,
-    Space,
-    Device(Attachment),
-}
-
-// Record i has the id i + 1. The bitmap and the reserved ranges are a device's, the allow list is a space's.
-pub struct Object {
-    pub kind: Kind,
-    pub bitmap: u64,
-    pub reserved: Reserved,
-    pub allow: Allowed,
-}
-
-// Numbers only, and laid out as C lays them out. A released record has space 0. Rights: bit 0 write, bit 1 read. Founder is 1 where the founding MAP was writeable.
-#[repr(C)]
-pub struct Mapping {
-    pub space: u32,
-    pub rights: u32,
-    pub founder: u32,
-    pub backing: u32,
-    pub address: u64,
-    pub length: u64,
-    pub memory: u64,
-}
-
-pub struct Table {
-    pub limit: u64,
-    pub objects: [Object; 32],
-    pub mappings: [Mapping; 128],
-}
+use rules_table::Attachment;
+use rules_table::Kind;
+use rules_table::Mapping;
 
 pub fn is_free(k: Kind) -> bool
     ensures { λ b. ⌜ b ≡ isFree k ⌝ }
@@ -121,7 +86,7 @@ pub fn is_touched(m: Mapping, s: u32, r: Range) -> bool
     ensures { λ b. ⌜ b ≡ touches s r m ⌝ }
 {
     let q = ranges::span_of(m.address, m.length);
-    command::both(m.space == s, ranges::shares(r, q))
+    checks::both(m.space == s, ranges::shares(r, q))
 }
 
 // Whether it is a mapping of space s and lies wholly inside r.
@@ -129,7 +94,7 @@ pub fn is_within(m: Mapping, s: u32, r: Range) -> bool
     ensures { λ b. ⌜ b ≡ within s r m ⌝ }
 {
     let q = ranges::span_of(m.address, m.length);
-    command::both(m.space == s, ranges::is_inside(q, r))
+    checks::both(m.space == s, ranges::is_inside(q, r))
 }
 
 pub fn can_write(m: Mapping) -> bool

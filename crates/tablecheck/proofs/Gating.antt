@@ -6,18 +6,18 @@ use mathlib.Core.List.{List}
 use native.Mathlib.Omega.{arith}
 use lib.ListN.{length}
 use borrow.Author.Tests.{eq-eqb, ne-eqb}
-use Rattle.command.specs.declared.Command.{Command}
-use Rattle.command.specs.declared.Opening.{Opening}
-use Rattle.command.specs.declared.Opening.the-variants.{UnknownRequest, NoSizeField, SizeTooSmall, SizePastBytes, TailNotZero, Open}
-use Rattle.command.specs.Requests.{requestOf, lookup}
-use Rattle.command.specs.Opening.{opened, openingErrno}
-use Rattle.command.specs.Opened.{opened-open}
-use Rattle.command.proofs.Lookups.{listed}
+use Rattle.rules_calls.specs.declared.Command.{Command}
+use Rattle.rules_calls.specs.declared.Opening.{Opening}
+use Rattle.rules_calls.specs.declared.Opening.the-variants.{UnknownRequest, NoSizeField, SizeTooSmall, SizePastBytes, TailNotZero, Open}
+use Rattle.rules_calls.specs.Requests.{requestOf, lookup}
+use Rattle.rules_calls.specs.Opening.{opened, openingErrno}
+use Rattle.opening.specs.Opened.{opened-open}
+use Rattle.opening.proofs.Lookups.{listed}
 use Rattle.wire.specs.Fields.{put}
-use Rattle.table.specs.declared.Table.{Table}
-use Rattle.table.specs.Good.{good}
-use Rattle.edits.specs.Answers.{outcome, replied}
-use Rattle.tablecheck.specs.Gate.{gateErrno}
+use Rattle.rules_table.specs.declared.Table.{Table}
+use Rattle.rules_table.specs.Good.{good}
+use Rattle.rules_calls.specs.Answers.{outcome, replied}
+use Rattle.rules_calls.specs.Gate.{gateErrno}
 
 -- ---- the gate
 

@@ -11,11 +11,11 @@ use borrow.Author.Tests.{le-leb, lt-leb, eq-eqb}
 use Rattle.lists.specs.Tests.{contrary, and-left, and-right}
 use Rattle.lists.specs.Search.{all, all-and, all-cong}
 use Rattle.lists.specs.Pairs.{clashes}
-use Rattle.table.specs.declared.Object.{Object}
-use Rattle.table.specs.declared.Mapping.{Mapping}
-use Rattle.table.specs.Spaces.{reservedOf}
-use Rattle.table.specs.Charge.{charge}
-use Rattle.table.specs.Good.{whenUsed, clearOf, together, apart, backingsAgree, recordsCounted, limitHolds, good}
+use Rattle.rules_table.specs.declared.Object.{Object}
+use Rattle.rules_table.specs.declared.Mapping.{Mapping}
+use Rattle.rules_table.specs.Spaces.{reservedOf}
+use Rattle.rules_table.specs.Charge.{charge}
+use Rattle.rules_table.specs.Good.{whenUsed, clearOf, together, apart, backingsAgree, recordsCounted, limitHolds, good}
 use Rattle.table.specs.Checked.{objectsOk, recordOk, recordsOk, pageAt, recordAlone, record-split, good-grouped}
 use Rattle.records.specs.declared.Pass.{Pass}
 use Rattle.records.specs.Passed.{Passed}
@@ -23,7 +23,7 @@ use Rattle.blocks.specs.Blocked.{blocked}
 use Rattle.facts.specs.Clear.{clear-records}
 use Rattle.digests.specs.declared.Digest.{Digest}
 use Rattle.digests.specs.Digest.{DigestOf}
-use Rattle.tablecheck.specs.Gate.{tableWith}
+use Rattle.rules_calls.specs.Gate.{tableWith}
 
 -- each record by itself, and clear of what is reserved
 abbrev pub Alone : List Object → List Mapping → Bool

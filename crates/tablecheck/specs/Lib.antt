@@ -1,2 +1,2 @@
 -- What comes before every command.
-pub mod Gate
+pub mod Seen

@@ -4,12 +4,12 @@ ghost use mathlib.Core.List.{List};
 ghost use mathlib.Core.Path.{_≡_};
 ghost use Prim.Native.Nat.{ℕ};
 ghost use lib.ListN.{length};
-ghost use Rattle.table.specs.Good.{good};
+ghost use Rattle.rules_table.specs.Good.{good};
 ghost use Rattle.digests.specs.Digest.{DigestOf};
-ghost use Rattle.tablecheck.specs.Gate.{tableWith};
+ghost use Rattle.rules_calls.specs.Gate.{tableWith};
 use digests::Digest;
-use table::Mapping;
-use table::Object;
+use rules_table::Mapping;
+use rules_table::Object;
 
 pub fn is_good(limit: u64, d: Digest, ms: [Mapping; 128]) -> bool
     ensures { λ r. ⌜ ((os : List Object) (a b : ℕ) → length os ≡ 32 → DigestOf os a b d → r ≡ good (tableWith limit os ms)) ⌝ }

@@ -1,5 +1,5 @@
 -- "All numbers are little-endian" (document 01): a field of k bytes at an offset, read and written, for every width at once.
-use Prim.Native.Nat.{ℕ, zero, suc, _+_, _-_, _*_, _/_, _%_, _^_, _≤_, _<_}
+use Prim.Native.Nat.{ℕ, zero, suc, _+_, _*_, _/_, _%_, _^_, _≤_, _<_}
 use mathlib.Core.Path.{_≡_, refl, ap, _∙_}
 use mathlib.Core.Bool.{Bool, true, false}
 use mathlib.Core.List.{List}
@@ -75,9 +75,6 @@ field-cong (suc k) bs cs at h = omega (arith, h at (omega arith) (omega arith), 
 -- another field that lies before or after what was written
 pub field-put-before : (j k : ℕ) (bs : List ℕ) (at v to : ℕ) → at + j ≤ to → field j (put k bs to v) at ≡ field j bs at
 field-put-before j k bs at v to h = field-cong j (put k bs to v) bs at (λ i a b. getD-put-before k bs to v i (omega arith))
-
-pub field-put-after : (j k : ℕ) (bs : List ℕ) (at v to : ℕ) → to + k ≤ at → field j (put k bs to v) at ≡ field j bs at
-field-put-after j k bs at v to h = field-cong j (put k bs to v) bs at (λ i a b. getD-put-after k bs to v i (omega arith))
 
 -- what was written is read: its k lowest bytes
 pub field-put : (k : ℕ) (bs : List ℕ) (at v : ℕ) → at + k ≤ length bs → v < 256 ^ k → field k (put k bs at v) at ≡ v

@@ -3,7 +3,7 @@ use mathlib.Core.Path.{ap, _∙_}
 use mathlib.Core.List.{List, _++_, map}
 use Rattle.lists.specs.Sums.{keep}
 use Rattle.ranges.specs.declared.Range.{Range}
-use Rattle.table.specs.Records.{ofSpace, extent}
+use Rattle.rules_table.specs.Records.{ofSpace, extent}
 use borrow.Author.Needs.{needs}
 use Rattle.blocking.proofs.blocked_in.Statement.{statement}
 use Rattle.blocking.proofs.blocked_in.Tie as tie

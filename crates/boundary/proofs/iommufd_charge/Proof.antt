@@ -34,26 +34,26 @@ use denote.Triple.Clauses.{ensured, lasts}
 use denote.Triple.Table.{entered, cited}
 use denote.Triple.Walked.{says, Stays, stay-none-ref, stay-none-slice, walkOf, goes-none-ref, goes-none-slice, Walks, ends-at, walked, walk-meets}
 use denote.Exit.{yes}
-use Rattle.table.specs.declared.Mapping.{Mapping}
-use Rattle.raw.specs.declared.Head.{Head}
-use Rattle.hostcalls.specs.declared.Order.{Order}
-use Rattle.hostcalls.specs.Orders.{chargeOrder}
-use Rattle.lentcalls.specs.declared.Number.{Number}
-use Rattle.lentcalls.specs.Entries.{LentTold}
-use Rattle.raw.proofs.Head as T
-use Rattle.table.proofs.Mapping as P
-use Rattle.hostcalls.proofs.Order as O
-use Rattle.hostcalls.proofs.Order.Laws as O′
-use Rattle.lentcalls.proofs.Number as N
-use Rattle.lentcalls.proofs.Number.Laws as N′
-use Rattle.hostcalls.proofs.charge_order as mo
-use Rattle.hostcalls.proofs.charge_order.Symbol as mo-def
-use Rattle.hostcalls.proofs.charge_order.Symbol.{name as #hostcalls·charge-order}
-use Rattle.hostcalls.proofs.charge_order.Met as mo-thm
-use Rattle.lentcalls.proofs.look as lk
-use Rattle.lentcalls.proofs.look.Symbol as lk-def
-use Rattle.lentcalls.proofs.look.Symbol.{name as #lentcalls·look}
-use Rattle.lentcalls.proofs.look.Met as lk-thm
+use Rattle.rules_table.specs.declared.Mapping.{Mapping}
+use Rattle.rules_table.specs.declared.Head.{Head}
+use Rattle.rules_calls.specs.declared.Order.{Order}
+use Rattle.rules_calls.specs.Orders.{chargeOrder}
+use Rattle.rules_lent.specs.declared.Number.{Number}
+use Rattle.rules_lent.specs.Entries.{LentTold}
+use Rattle.rules_table.proofs.Head as T
+use Rattle.rules_table.proofs.Mapping as P
+use Rattle.rules_calls.proofs.Order as O
+use Rattle.rules_calls.proofs.Order.Laws as O′
+use Rattle.rules_lent.proofs.Number as N
+use Rattle.rules_lent.proofs.Number.Laws as N′
+use Rattle.host_calls.proofs.charge_order as mo
+use Rattle.host_calls.proofs.charge_order.Symbol as mo-def
+use Rattle.host_calls.proofs.charge_order.Symbol.{name as #host_calls·charge-order}
+use Rattle.host_calls.proofs.charge_order.Met as mo-thm
+use Rattle.lent_calls.proofs.look as lk
+use Rattle.lent_calls.proofs.look.Symbol as lk-def
+use Rattle.lent_calls.proofs.look.Symbol.{name as #lent_calls·look}
+use Rattle.lent_calls.proofs.look.Met as lk-thm
 use Rattle.boundary.proofs.iommufd_charge.Key.{name as #boundary·iommufd-charge}
 use Rattle.boundary.proofs.iommufd_charge as f
 use Rattle.boundary.proofs.iommufd_charge.Statement as stated
@@ -153,7 +153,7 @@ module _ {M : Type 1} (𝓤 : URA M) (H : Heap 𝓤) (A : Atoms 𝓤) (W : Given
       qed W (tokens ∷ ‵ held ∷ ‵ held-ms ∷ []) ∵ nothing ! $ owned ! O.the-row (Is O.the-row) (LL.makes O.the-type O′.the-plain 𝓤 H A) c _ is $ fjoin ! $ move ! (3 ∷ 0 ∷ []) $ fjoin ! $ move ! (2 ∷ 0 ∷ []) $ fjoin ! $
       move ! (1 ∷ 0 ∷ []) $ join ! $ frame ! $ done !
 
-  walk : (𝓣 : Tables 𝓤 H) → Triple 𝓤 (𝓣 .C #hostcalls·charge-order) (Make 𝓤 H A at-mem run) → Triple 𝓤 (𝓣 .C #lentcalls·look) (Look 𝓤 H A at-mem run)
+  walk : (𝓣 : Tables 𝓤 H) → Triple 𝓤 (𝓣 .C #host_calls·charge-order) (Make 𝓤 H A at-mem run) → Triple 𝓤 (𝓣 .C #lent_calls·look) (Look 𝓤 H A at-mem run)
       → ent 𝓤 (onEntry 𝓤 H A f.signature (κ, (κ₁, tt)) (q, (q₁, tt)) x at) (WpFn 𝓤 H (𝓣 .C) (𝓣 .Λ) code.function (vptr b o ∷ s ∷ []) Post)
   walk 𝓣 known-make known-look =
       qed W (tokens ∷ owned-all ∷ []) ∵ enter ! (𝓣 .C) (𝓣 .Λ) code.function (vptr b o ∷ s ∷ []) _ $
@@ -181,7 +181,7 @@ module _ {M : Type 1} (𝓤 : URA M) (H : Heap 𝓤) (A : Atoms 𝓤) (W : Given
       move ! (11 ∷ 12 ∷ []) $ free1 ! $ move ! (9 ∷ 10 ∷ []) $ free1 ! $ move ! (7 ∷ 8 ∷ []) $ free1 ! $ move ! (5 ∷ 6 ∷ []) $ free1 ! $ free0 ! $
       by ! (exits r v₂ (subst (λ (k : Order). Says k r) ec er))))))))))))))
 
-module _ {M : Type 1} (𝓤 : URA M) (H : Heap 𝓤) (A : Atoms 𝓤) (W : Given 𝓤 H A) (at-mem : Memory → SProp 𝓤) (run : Routine → Fun 𝓤) (𝓣 : Tables 𝓤 H) (known-make : Triple 𝓤 (𝓣 .C #hostcalls·charge-order) (Make 𝓤 H A at-mem run)) (known-look : Triple 𝓤 (𝓣 .C #lentcalls·look) (Look 𝓤 H A at-mem run)) where
+module _ {M : Type 1} (𝓤 : URA M) (H : Heap 𝓤) (A : Atoms 𝓤) (W : Given 𝓤 H A) (at-mem : Memory → SProp 𝓤) (run : Routine → Fun 𝓤) (𝓣 : Tables 𝓤 H) (known-make : Triple 𝓤 (𝓣 .C #host_calls·charge-order) (Make 𝓤 H A at-mem run)) (known-look : Triple 𝓤 (𝓣 .C #lent_calls·look) (Look 𝓤 H A at-mem run)) where
   charge-walks : Walks 𝓤 H A f.ended stayed (WpFn 𝓤 H (𝓣 .C) (𝓣 .Λ) code.function) (f.clauses 𝓤 H A at-mem run)
   charge-walks = walked 𝓤 H A f.ended stayed (f.clauses 𝓤 H A at-mem run) (WpFn 𝓤 H (𝓣 .C) (𝓣 .Λ) code.function) (λ κs. (ptr-vals, (slice-vals, tt))) (λ κs. (shr-tells (named 0) (κs .0) T.the-row, (shr-slice-tells (named 1) (κs .1 .0) R, tt)))
       (λ κs qs bounds a g are. via 𝓤 _ (fst∗ 𝓤 _ (emp 𝓤))
@@ -197,5 +197,5 @@ iommufd-charge-spec 𝓤 H 𝓜 𝓖 𝓡 =
     entered 𝓤 H (tripleOf 𝓤 H (𝓖 .A) f.signature (f.spec 𝓤 H (𝓖 .A) (𝓜 .mem) (𝓡 .run)))
     (tables 𝓤 H 𝓜 𝓡 code.env .C) (tables 𝓤 H 𝓜 𝓡 code.env .Λ) #boundary·iommufd-charge code.function (code.unfolded 𝓤 H 𝓜 𝓡)
     (charge-meets 𝓤 H (𝓖 .A) (givenOf 𝓤 H 𝓜 𝓖) (𝓜 .mem) (𝓡 .run) (tablesOf 𝓤 H 𝓜 (tables 𝓤 H 𝓜 𝓡 code.env))
-    (cited 𝓤 H (Make 𝓤 H (𝓖 .A) (𝓜 .mem) (𝓡 .run)) 𝓜 𝓡 code.env #hostcalls·charge-order mo-def.routine code.calls-hostcalls·charge-order (mo-thm.met 𝓤 H 𝓜 𝓖 𝓡))
-    (cited 𝓤 H (Look 𝓤 H (𝓖 .A) (𝓜 .mem) (𝓡 .run)) 𝓜 𝓡 code.env #lentcalls·look lk-def.routine code.calls-lentcalls·look (lk-thm.met 𝓤 H 𝓜 𝓖 𝓡)))
+    (cited 𝓤 H (Make 𝓤 H (𝓖 .A) (𝓜 .mem) (𝓡 .run)) 𝓜 𝓡 code.env #host_calls·charge-order mo-def.routine code.calls-host-calls·charge-order (mo-thm.met 𝓤 H 𝓜 𝓖 𝓡))
+    (cited 𝓤 H (Look 𝓤 H (𝓖 .A) (𝓜 .mem) (𝓡 .run)) 𝓜 𝓡 code.env #lent_calls·look lk-def.routine code.calls-lent-calls·look (lk-thm.met 𝓤 H 𝓜 𝓖 𝓡)))

@@ -48,27 +48,28 @@ use denote.Exit.{yes}
 use borrow.Author.Tests.{eqb-true}
 use Rattle.walks.specs.Left.{left-ref, left-slice}
 use Rattle.walks.specs.Test.{takes, passes, big-lit}
-use Rattle.command.specs.Results.{result-zero, result-suc}
-use Rattle.table.specs.declared.Mapping.{Mapping}
-use Rattle.table.specs.Records.{zeroMapping}
-use Rattle.raw.specs.declared.Head.{Head}
-use Rattle.raw.specs.Raw.{freshHead}
-use Rattle.lent.specs.declared.Records.the-variants.{Wipe}
-use Rattle.lent.specs.Lent.{stored, stored-wipe}
-use Rattle.lentcalls.specs.Entries.{LentFresh}
-use Rattle.raw.proofs.Head as T
-use Rattle.raw.proofs.Head.Laws as T′
-use Rattle.table.proofs.Mapping as P
-use Rattle.lent.proofs.Records as S
-use Rattle.lent.proofs.Records.Laws as S′
-use Rattle.raw.proofs.fresh_head as fh
-use Rattle.raw.proofs.fresh_head.Symbol as fh-def
-use Rattle.raw.proofs.fresh_head.Symbol.{name as #raw·fresh-head}
-use Rattle.raw.proofs.fresh_head.Met as fh-thm
-use Rattle.lent.proofs.store as sr
-use Rattle.lent.proofs.store.Symbol as sr-def
-use Rattle.lent.proofs.store.Symbol.{name as #lent·store}
-use Rattle.lent.proofs.store.Met as sr-thm
+use Rattle.opening.specs.Signed.{result-zero, result-suc}
+use Rattle.rules_table.specs.declared.Mapping.{Mapping}
+use Rattle.rules_table.specs.Records.{zeroMapping}
+use Rattle.rules_table.specs.declared.Head.{Head}
+use Rattle.rules_table.specs.Layout.{freshHead}
+use Rattle.rules_lent.specs.declared.Records.the-variants.{Wipe}
+use Rattle.lent_records.specs.Lent.{stored-wipe}
+use Rattle.rules_lent.specs.Records.{stored}
+use Rattle.rules_lent.specs.Entries.{LentFresh}
+use Rattle.rules_table.proofs.Head as T
+use Rattle.rules_table.proofs.Head.Laws as T′
+use Rattle.rules_table.proofs.Mapping as P
+use Rattle.rules_lent.proofs.Records as S
+use Rattle.rules_lent.proofs.Records.Laws as S′
+use Rattle.layout.proofs.fresh_head as fh
+use Rattle.layout.proofs.fresh_head.Symbol as fh-def
+use Rattle.layout.proofs.fresh_head.Symbol.{name as #layout·fresh-head}
+use Rattle.layout.proofs.fresh_head.Met as fh-thm
+use Rattle.lent_records.proofs.store as sr
+use Rattle.lent_records.proofs.store.Symbol as sr-def
+use Rattle.lent_records.proofs.store.Symbol.{name as #lent_records·store}
+use Rattle.lent_records.proofs.store.Met as sr-thm
 use Rattle.boundary.proofs.iommufd_fresh.Key.{name as #boundary·iommufd-fresh}
 use Rattle.boundary.proofs.iommufd_fresh as f
 use Rattle.boundary.proofs.iommufd_fresh.Statement as stated
@@ -210,7 +211,7 @@ module _ {M : Type 1} (𝓤 : URA M) (H : Heap 𝓤) (A : Atoms 𝓤) (W : Given
       qed W (lent ∷ ‵ (MutSlice (named 1) κ₁ R .own ms (s ∷ [])) ∷ []) ∵ says ! l $ frame ! $
       nothing ! $ owned ! S.the-row (Is S.the-row) (EL.makes S.the-type S′.the-plain 𝓤 H A) Wipe _ is-wipe $ fjoin ! $ move ! (1 ∷ 0 ∷ []) $ fjoin ! $ done !
 
-  module _ (C : Calls 𝓤 H) (Λ : Loops 𝓤 H) (fm : FmC 𝓤 H (W .laws) C) (known-fresh : Triple 𝓤 (C #raw·fresh-head) (Fresh 𝓤 H A at-mem run)) (known-store : Triple 𝓤 (C #lent·store) (Store 𝓤 H A at-mem run)) (l₀ l₁ l₂ l₃ l₄ l₅ l₆ l₇ l₈ l₉ l₁₀ : ℕ) where
+  module _ (C : Calls 𝓤 H) (Λ : Loops 𝓤 H) (fm : FmC 𝓤 H (W .laws) C) (known-fresh : Triple 𝓤 (C #layout·fresh-head) (Fresh 𝓤 H A at-mem run)) (known-store : Triple 𝓤 (C #lent_records·store) (Store 𝓤 H A at-mem run)) (l₀ l₁ l₂ l₃ l₄ l₅ l₆ l₇ l₈ l₉ l₁₀ : ℕ) where
     abbrev En : Env 𝓤 H
     En = (tyInt w32, l₀) ∷ (ref, l₁) ∷ (slice, l₂) ∷ (word, l₃) ∷ (word, l₄) ∷ (tyBool, l₅) ∷ (T′.mir, l₆) ∷ (tyUnit, l₇) ∷ (first-ref, l₈) ∷ (sliceTy first-ref, l₉) ∷ (S′.mir, l₁₀) ∷ []
 
@@ -287,7 +288,7 @@ module _ {M : Type 1} (𝓤 : URA M) (H : Heap 𝓤) (A : Atoms 𝓤) (W : Given
     tested-length true e = passes ! (load ! (from ! (stop !)) (look ! 10 refl)) $ tested-limit (ltb (2 ^ 36) n) refl e
     tested-length false e = takes ! (load ! (from ! (stop !)) (look ! 10 refl)) $ refuses 117 (negsuc 116) tt is-117 (bad-length h ys n e) refl
 
-  walk : (𝓣 : Tables 𝓤 H) → Triple 𝓤 (𝓣 .C #raw·fresh-head) (Fresh 𝓤 H A at-mem run) → Triple 𝓤 (𝓣 .C #lent·store) (Store 𝓤 H A at-mem run)
+  walk : (𝓣 : Tables 𝓤 H) → Triple 𝓤 (𝓣 .C #layout·fresh-head) (Fresh 𝓤 H A at-mem run) → Triple 𝓤 (𝓣 .C #lent_records·store) (Store 𝓤 H A at-mem run)
       → ent 𝓤 (onEntry 𝓤 H A f.signature (κ, (κ₁, tt)) (q, (q₁, tt)) x at) (WpFn 𝓤 H (𝓣 .C) (𝓣 .Λ) code.function (vptr b o ∷ s ∷ vint w64 n ∷ []) Post)
   walk 𝓣 known-fresh known-store =
       qed W (tokens ∷ owned-all ∷ []) ∵ enter ! (𝓣 .C) (𝓣 .Λ) code.function (vptr b o ∷ s ∷ vint w64 n ∷ []) _ $
@@ -297,7 +298,7 @@ module _ {M : Type 1} (𝓤 : URA M) (H : Heap 𝓤) (A : Atoms 𝓤) (W : Given
       assigns ! (bin ! (load ! (from ! (stop !)) (look ! 12 refl)) (lit ! tt) tt) (from ! (stop !)) (init ! 10 refl (tt, tt)) $
       tested-length (𝓣 .C) (𝓣 .Λ) (fmOf 𝓤 H (W .laws) 𝓣) known-fresh known-store l₀ l₁ l₂ l₃ l₄ l₅ l₆ l₇ l₈ l₉ l₁₀ (eqb (length ys) 128) refl)))))))))))
 
-module _ {M : Type 1} (𝓤 : URA M) (H : Heap 𝓤) (A : Atoms 𝓤) (W : Given 𝓤 H A) (at-mem : Memory → SProp 𝓤) (run : Routine → Fun 𝓤) (𝓣 : Tables 𝓤 H) (known-fresh : Triple 𝓤 (𝓣 .C #raw·fresh-head) (Fresh 𝓤 H A at-mem run)) (known-store : Triple 𝓤 (𝓣 .C #lent·store) (Store 𝓤 H A at-mem run)) where
+module _ {M : Type 1} (𝓤 : URA M) (H : Heap 𝓤) (A : Atoms 𝓤) (W : Given 𝓤 H A) (at-mem : Memory → SProp 𝓤) (run : Routine → Fun 𝓤) (𝓣 : Tables 𝓤 H) (known-fresh : Triple 𝓤 (𝓣 .C #layout·fresh-head) (Fresh 𝓤 H A at-mem run)) (known-store : Triple 𝓤 (𝓣 .C #lent_records·store) (Store 𝓤 H A at-mem run)) where
   fresh-walks : Walks 𝓤 H A f.ended stayed (WpFn 𝓤 H (𝓣 .C) (𝓣 .Λ) code.function) (f.clauses 𝓤 H A at-mem run)
   fresh-walks = walked 𝓤 H A f.ended stayed (f.clauses 𝓤 H A at-mem run) (WpFn 𝓤 H (𝓣 .C) (𝓣 .Λ) code.function) (λ κs. (ptr-vals, (slice-vals, (uint-vals w64, tt)))) (λ κs. (mut-tells (named 0) (κs .0) T.the-row, (mut-slice-tells (named 1) (κs .1 .0) R, (uint-tells w64, tt))))
       (λ κs qs bounds a g are. via 𝓤 _ (fst∗ 𝓤 _ (emp 𝓤))
@@ -313,5 +314,5 @@ iommufd-fresh-spec 𝓤 H 𝓜 𝓖 𝓡 =
     entered 𝓤 H (tripleOf 𝓤 H (𝓖 .A) f.signature (f.spec 𝓤 H (𝓖 .A) (𝓜 .mem) (𝓡 .run)))
     (tables 𝓤 H 𝓜 𝓡 code.env .C) (tables 𝓤 H 𝓜 𝓡 code.env .Λ) #boundary·iommufd-fresh code.function (code.unfolded 𝓤 H 𝓜 𝓡)
     (fresh-meets 𝓤 H (𝓖 .A) (givenOf 𝓤 H 𝓜 𝓖) (𝓜 .mem) (𝓡 .run) (tablesOf 𝓤 H 𝓜 (tables 𝓤 H 𝓜 𝓡 code.env))
-    (cited 𝓤 H (Fresh 𝓤 H (𝓖 .A) (𝓜 .mem) (𝓡 .run)) 𝓜 𝓡 code.env #raw·fresh-head fh-def.routine code.calls-raw·fresh-head (fh-thm.met 𝓤 H 𝓜 𝓖 𝓡))
-    (cited 𝓤 H (Store 𝓤 H (𝓖 .A) (𝓜 .mem) (𝓡 .run)) 𝓜 𝓡 code.env #lent·store sr-def.routine code.calls-lent·store (sr-thm.met 𝓤 H 𝓜 𝓖 𝓡)))
+    (cited 𝓤 H (Fresh 𝓤 H (𝓖 .A) (𝓜 .mem) (𝓡 .run)) 𝓜 𝓡 code.env #layout·fresh-head fh-def.routine code.calls-layout·fresh-head (fh-thm.met 𝓤 H 𝓜 𝓖 𝓡))
+    (cited 𝓤 H (Store 𝓤 H (𝓖 .A) (𝓜 .mem) (𝓡 .run)) 𝓜 𝓡 code.env #lent_records·store sr-def.routine code.calls-lent-records·store (sr-thm.met 𝓤 H 𝓜 𝓖 𝓡)))

@@ -1,7 +1,7 @@
 -- Nothing is told of bad objects; else fact by fact.
 use mathlib.Core.Path.{sym, _∙_}
 use mathlib.Core.List.{map}
-use Rattle.raw.specs.Raw.{decoded}
+use Rattle.rules_table.specs.Layout.{decoded}
 use borrow.Author.Tests.{not-true, not-false}
 use Rattle.lists.specs.Tests.{contrary}
 use Rattle.lists.specs.Update.{length-mapped}

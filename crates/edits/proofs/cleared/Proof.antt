@@ -4,8 +4,7 @@ use Prim.Native.Nat.{_-_, _≤_}
 use mathlib.Core.Path.{_≡_, _∙_}
 use lib.ListN.{length, length-set}
 use Rattle.lists.specs.Update.{mapFirst, mapFirst-zero, mapFirst-on, mapFirst-end, length-mapped}
-use Rattle.table.specs.Records.{within}
-use Rattle.table.specs.Cleared.{release}
+use Rattle.rules_table.specs.Records.{within, release}
 use Rattle.edits.proofs.Storing.{release-by}
 use borrow.Author.Needs.{needs}
 use Rattle.edits.proofs.cleared.Statement.{statement}

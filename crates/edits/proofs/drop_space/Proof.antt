@@ -3,7 +3,7 @@ use native.Mathlib.Omega.{arith}
 use mathlib.Core.Path.{ap}
 use lib.ListN.{set}
 use Rattle.lists.specs.Update.{length-mapped}
-use Rattle.table.specs.declared.Object.{Object}
+use Rattle.rules_table.specs.declared.Object.{Object}
 use Rattle.edits.proofs.Storing.{drop-past, drop-here}
 use borrow.Author.Needs.{needs}
 use Rattle.edits.proofs.drop_space.Statement.{statement}

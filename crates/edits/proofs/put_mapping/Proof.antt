@@ -1,7 +1,7 @@
 -- A place that no record has changes nothing.
 use native.Mathlib.Omega.{arith}
 use Rattle.lists.specs.Update.{length-mapped}
-use Rattle.edits.specs.Edits.{putMapping}
+use Rattle.rules_calls.specs.Edits.{putMapping}
 use Rattle.edits.proofs.Storing.{put-mapping-past}
 use borrow.Author.Needs.{needs}
 use Rattle.edits.proofs.put_mapping.Statement.{statement}

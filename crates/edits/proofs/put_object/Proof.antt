@@ -2,7 +2,7 @@
 use native.Mathlib.Omega.{arith}
 use mathlib.Core.Path.{refl}
 use Rattle.lists.specs.Update.{length-mapped}
-use Rattle.edits.specs.Edits.{putObject}
+use Rattle.rules_calls.specs.Edits.{putObject}
 use Rattle.edits.proofs.Storing.{put-past}
 use borrow.Author.Needs.{needs}
 use Rattle.edits.proofs.put_object.Statement.{statement}

@@ -1,7 +1,7 @@
 -- Nothing to change.
 use mathlib.Core.Path.{ap}
-use Rattle.table.specs.declared.Object.{Object}
-use Rattle.edits.specs.declared.Change.the-variants.{Nothing}
+use Rattle.rules_table.specs.declared.Object.{Object}
+use Rattle.rules_calls.specs.declared.Change.the-variants.{Nothing}
 use borrow.Author.Needs.{needs}
 use Rattle.edits.proofs.refusal.Statement.{statement}
 use Rattle.edits.proofs.refusal.Tie as tie

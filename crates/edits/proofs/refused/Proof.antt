@@ -1,6 +1,6 @@
 -- The signed result beside the table.
 use mathlib.Core.Path.{refl, _∙_}
-use Rattle.edits.specs.Answers.{refusedBy}
+use Rattle.rules_calls.specs.Answers.{refusedBy}
 use Rattle.edits.proofs.Storing.{answer-is}
 use borrow.Author.Needs.{needs}
 use Rattle.edits.proofs.refused.Statement.{statement}

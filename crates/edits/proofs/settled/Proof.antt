@@ -1,6 +1,6 @@
 -- The signed result beside the table after the edit.
 use mathlib.Core.Path.{_∙_}
-use Rattle.edits.specs.Answers.{outcome}
+use Rattle.rules_calls.specs.Answers.{outcome}
 use Rattle.edits.proofs.Storing.{answer-is}
 use borrow.Author.Needs.{needs}
 use Rattle.edits.proofs.settled.Statement.{statement}

@@ -1,6 +1,6 @@
 -- The id, or the signed errno, beside the table after the edit.
 use mathlib.Core.Path.{_∙_}
-use Rattle.edits.specs.Answers.{outcomeId}
+use Rattle.rules_calls.specs.Answers.{outcomeId}
 use Rattle.edits.proofs.Storing.{answer-is, id-refused, id-given}
 use borrow.Author.Needs.{needs}
 use Rattle.edits.proofs.settled_id.Statement.{statement}

@@ -6,7 +6,7 @@ use mathlib.Core.Path.{_≡_}
 use mathlib.Core.List.{map}
 use lib.ListN.{length}
 use Rattle.lists.specs.Update.{length-mapped}
-use Rattle.raw.specs.Raw.{decoded}
+use Rattle.rules_table.specs.Layout.{decoded}
 use Rattle.facts.proofs.Gathering.{Gathering, gathering-start, gathered-on, gathered-next, gathering-end}
 use Rattle.facts.proofs.blocks_of.Statement.{statement}
 use Rattle.facts.proofs.blocks_of.Tie as tie

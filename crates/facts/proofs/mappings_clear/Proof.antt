@@ -7,7 +7,7 @@ use lib.ListN.{length, drop}
 use Rattle.lists.specs.Update.{length-mapped}
 use Rattle.lists.specs.Search.{any, all, any-found, any-on, any-end}
 use Rattle.blocks.specs.Blocked.{blocked}
-use Rattle.table.specs.Good.{whenUsed, clearOf}
+use Rattle.rules_table.specs.Good.{whenUsed, clearOf}
 use Rattle.facts.specs.Clear.{strikes}
 use Rattle.facts.proofs.Clearing.{clearLeft, clear-start, clear-struck, clear-on, clear-end}
 use Rattle.facts.proofs.mappings_clear.Statement.{statement}

@@ -3,9 +3,10 @@ use mathlib.Core.Path.{sym, _∙_}
 use mathlib.Core.List.{[]}
 use native.Mathlib.Omega.{arith}
 use borrow.Author.Tests.{not-true, not-false}
-use Rattle.command.specs.declared.Command.the-variants.{Destroy, IoasAlloc, AllowIovas, Copy, IovaRanges, Map, Unmap}
-use Rattle.command.specs.Opened.{opened-length}
-use Rattle.tablecheck.specs.Gate.{tableWith, good-seen, good-records}
+use Rattle.rules_calls.specs.declared.Command.the-variants.{Destroy, IoasAlloc, AllowIovas, Copy, IovaRanges, Map, Unmap}
+use Rattle.opening.specs.Opened.{opened-length}
+use Rattle.rules_calls.specs.Gate.{tableWith}
+use Rattle.tablecheck.specs.Seen.{good-seen, good-records}
 use Rattle.iommufd.proofs.Dispatching.{refused, gate-bad, gate-closed, is-open, destroy-arm, alloc-arm, allow-arm, copy-arm, ranges-arm, map-arm, unmap-arm}
 use borrow.Author.Needs.{needs}
 use Rattle.iommufd.proofs.decide.Statement.{statement}

@@ -1,5 +1,5 @@
 -- Both arrays, from the places in use on.
-use Rattle.table.specs.Good.{allowRest}
+use Rattle.rules_table.specs.Good.{allowRest}
 use borrow.Author.Needs.{needs}
 use Rattle.objects.proofs.allow_rest.Statement.{statement}
 use Rattle.objects.proofs.allow_rest.Tie as tie

@@ -1,5 +1,6 @@
 -- The tests in order.
-use Rattle.objects.specs.Judged.{deviceFits}
+use mathlib.Core.Path.{_∙_}
+use Rattle.table.specs.Fitting.{device-fits}
 use borrow.Author.Needs.{needs}
 use Rattle.objects.proofs.device_valid.Statement.{statement}
 use Rattle.objects.proofs.device_valid.Tie as tie
@@ -20,8 +21,7 @@ both-requires-3 : tie.Need-both-requires-3
 both-requires-3 c κs = search needs
 
 returns : tie.Need-returns
-unfolding deviceFits
-returns c = rw (c .both3 .ensures, c .before .both2 .ensures, c .before .before .both .ensures, c .before .before .before .reserved-valid .ensures, c .before .before .before .before .before .before .smallest-page .ensures)
+returns c = rw (c .both3 .ensures, c .before .both2 .ensures, c .before .before .both .ensures, c .before .before .before .reserved-valid .ensures, c .before .before .before .before .before .before .smallest-page .ensures) (device-fits _)
 
 pub device-valid-spec : {M : Type 1} → statement M
 device-valid-spec =

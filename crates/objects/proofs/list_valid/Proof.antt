@@ -1,5 +1,6 @@
 -- The tests in order.
-use Rattle.objects.specs.Judged.{listFits}
+use mathlib.Core.Path.{_∙_}
+use Rattle.table.specs.Fitting.{list-fits}
 use borrow.Author.Needs.{needs}
 use Rattle.objects.proofs.list_valid.Statement.{statement}
 use Rattle.objects.proofs.list_valid.Tie as tie
@@ -17,8 +18,7 @@ both-requires-2 : tie.Need-both-requires-2
 both-requires-2 c κs = search needs
 
 returns : tie.Need-returns
-unfolding listFits
-returns c = rw (c .both2 .ensures, c .before .both .ensures, c .before .before .allowed-overlap .ensures, c .before .before .before .allowed-valid .ensures)
+returns c = rw (c .both2 .ensures, c .before .both .ensures, c .before .before .allowed-overlap .ensures, c .before .before .before .allowed-valid .ensures) (list-fits _)
 
 pub list-valid-spec : {M : Type 1} → statement M
 list-valid-spec =

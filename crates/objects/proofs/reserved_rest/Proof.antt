@@ -1,5 +1,5 @@
 -- Both arrays, from the places in use on.
-use Rattle.table.specs.Good.{reservedRest}
+use Rattle.rules_table.specs.Good.{reservedRest}
 use borrow.Author.Needs.{needs}
 use Rattle.objects.proofs.reserved_rest.Statement.{statement}
 use Rattle.objects.proofs.reserved_rest.Tie as tie

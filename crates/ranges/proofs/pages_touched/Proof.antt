@@ -1,6 +1,5 @@
 -- The quotient of the sum, made of the quotients and remainders of its parts.
 use native.Mathlib.Omega.{arith}
-use Rattle.ranges.specs.Pages.{pagesTouched}
 use Rattle.ranges.proofs.Paging.{none-touched, some-touched}
 use borrow.Author.Needs.{needs}
 use Rattle.ranges.proofs.pages_touched.Statement.{statement}

@@ -4,7 +4,7 @@ use borrow.Author.Needs.{needs}
 use Prim.Native.Nat.{_-_}
 use Rattle.lists.specs.Update.{length-mapped}
 use Rattle.lists.specs.Search.{all-at}
-use Rattle.table.specs.Records.{zeroMapping}
+use Rattle.rules_table.specs.Records.{zeroMapping}
 use Rattle.records.specs.Alone.{numbered}
 use Rattle.records.proofs.Marking.{Seen, seen-start, backing-most, leader-most, seen-differ, seen-on, seen-end}
 use Rattle.records.proofs.charged_of.Statement.{statement}

@@ -1,6 +1,6 @@
 -- Test by test.
-use Rattle.table.specs.Records.{used}
-use Rattle.table.specs.Good.{differ}
+use Rattle.rules_table.specs.Records.{used}
+use Rattle.rules_table.specs.Good.{differ}
 use borrow.Author.Needs.{needs}
 use Rattle.records.proofs.differs.Statement.{statement}
 use Rattle.records.proofs.differs.Tie as tie

@@ -1,5 +1,5 @@
 -- Neither end passes.
-use Rattle.table.specs.Good.{endsFit}
+use Rattle.rules_table.specs.Good.{endsFit}
 use borrow.Author.Needs.{needs}
 use Rattle.records.proofs.ends_fit.Statement.{statement}
 use Rattle.records.proofs.ends_fit.Tie as tie

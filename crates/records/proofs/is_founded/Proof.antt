@@ -1,5 +1,5 @@
 -- Test by test.
-use Rattle.table.specs.Records.{canWrite}
+use Rattle.rules_table.specs.Records.{canWrite}
 use Rattle.records.specs.Alone.{founded}
 use borrow.Author.Needs.{needs}
 use Rattle.records.proofs.is_founded.Statement.{statement}

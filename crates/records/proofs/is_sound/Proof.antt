@@ -1,5 +1,5 @@
 -- Rule by rule.
-use Rattle.table.specs.Good.{alignedTo}
+use Rattle.rules_table.specs.Good.{alignedTo}
 use Rattle.records.specs.Alone.{sound}
 use borrow.Author.Needs.{needs}
 use Rattle.records.proofs.is_sound.Statement.{statement}

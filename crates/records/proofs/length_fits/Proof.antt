@@ -1,5 +1,5 @@
 -- Two comparisons.
-use Rattle.table.specs.Good.{lengthFits}
+use Rattle.rules_table.specs.Good.{lengthFits}
 use borrow.Author.Needs.{needs}
 use Rattle.records.proofs.length_fits.Statement.{statement}
 use Rattle.records.proofs.length_fits.Tie as tie

@@ -1,6 +1,6 @@
 -- A mark or no space: nothing is added.
 use native.Mathlib.Omega.{arith}
-use Rattle.table.specs.Charge.{mappingPages}
+use Rattle.rules_table.specs.Charge.{mappingPages}
 use Rattle.records.proofs.Choosing.{added-marked, added-none, added-first}
 use borrow.Author.Needs.{needs}
 use Rattle.records.proofs.pages_if.Statement.{statement}

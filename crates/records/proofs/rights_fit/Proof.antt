@@ -1,5 +1,5 @@
 -- Two comparisons.
-use Rattle.table.specs.Good.{rightsFit}
+use Rattle.rules_table.specs.Good.{rightsFit}
 use borrow.Author.Needs.{needs}
 use Rattle.records.proofs.rights_fit.Statement.{statement}
 use Rattle.records.proofs.rights_fit.Tie as tie

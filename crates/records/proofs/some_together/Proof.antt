@@ -7,7 +7,7 @@ use lib.ListN.{length, drop}
 use Rattle.lists.specs.Update.{length-mapped}
 use Rattle.lists.specs.Search.{any-found, any-on, any-end}
 use Rattle.lists.specs.Pairs.{clashes, clashes-found, clashes-on, clashes-end}
-use Rattle.table.specs.Good.{together}
+use Rattle.rules_table.specs.Good.{together}
 use Rattle.records.proofs.Comparing.{touch-tells, Compared, compared-start}
 use Rattle.records.proofs.some_together.Statement.{statement}
 use Rattle.records.proofs.some_together.Tie as tie

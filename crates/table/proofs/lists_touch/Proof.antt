@@ -5,7 +5,7 @@ use Prim.Native.Nat.{_-_, min}
 use mathlib.Core.Path.{_≡_, sym, _∙_}
 use lib.ListN.{length}
 use Rattle.rangelists.specs.Listed.{reserved, allowed}
-use Rattle.table.specs.Good.{listsTouch}
+use Rattle.rules_table.specs.Good.{listsTouch}
 use Rattle.table.proofs.Touching.{touchLeft, touch-start, touch-found, touch-on, touch-end}
 use Rattle.table.proofs.lists_touch.Statement.{statement}
 use Rattle.table.proofs.lists_touch.Tie as tie

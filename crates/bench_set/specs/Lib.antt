@@ -1,0 +1,5 @@
+-- Document 01's bench set as one table of cases, with one statement over it, and as equations row by row.
+pub mod Rows
+pub mod Computing
+pub mod Cases
+pub mod Says

@@ -1,0 +1,1 @@
+-- No definitions: what COPY decides stands in rules_calls.

@@ -1,0 +1,73 @@
+-- MAP, one law for each return: the numbers, the place or the room refused, or the mapping is made.
+use Prim.Native.Nat.{ℕ}
+use mathlib.Core.Path.{_≡_, _∙_}
+use mathlib.Core.List.{List, _++_}
+use native.Mathlib.Omega.{arith}
+use Rattle.lists.specs.Checks.{Check, first, Refusals}
+use Rattle.ranges.specs.Pages.{pagesTouched}
+use Rattle.rangelists.specs.Listed.{found}
+use Rattle.rules_table.specs.Flags.{bit}
+use Rattle.rules_table.specs.declared.Object.{Object}
+use Rattle.rules_table.specs.declared.Mapping.{Mapping}
+use Rattle.rules_table.specs.Charge.{charge, freeMapping}
+use Rattle.rules_calls.specs.declared.Edit.{Edit}
+use Rattle.rules_calls.specs.Edits.{refuse}
+use Rattle.edits.specs.Settled.{settle-refused, settle-taken}
+use Rattle.scan.specs.declared.Survey.{Survey}
+use Rattle.scan.specs.Surveyed.{surveyOf}
+use Rattle.landing.specs.declared.Target.{Target}
+use Rattle.landing.specs.declared.Placing.{Placing}
+use Rattle.rules_calls.specs.Landing.{placeChecks}
+use Rattle.landing.specs.Placing.{Placed}
+use Rattle.rules_calls.specs.Map.{numberIn, mapped, mapNumberChecks, roomChecks, mapChecks, foundOf, founding, mapEdit}
+use Rattle.cmd_map.proofs.Staging.{stage-refused, stage-passed, place-refuse}
+
+module _ (limit : ℕ) (os : List Object) (ms : List Mapping) (t : Target) (z memory : ℕ) where
+  abbrev numbers : List (Check ℕ)
+  numbers = mapNumberChecks os (t .flags) (t .space) z memory (t .length) (t .address)
+
+  abbrev places : List (Check ℕ)
+  places = placeChecks os ms (t .space) (bit 0 (t .flags)) (t .length) (t .address)
+
+  abbrev room : List (Check ℕ)
+  room = roomChecks (found (freeMapping ms)) limit (charge ms) (pagesTouched memory (t .length))
+
+  abbrev all : List (Check ℕ)
+  all = mapChecks limit os ms (t .flags) (t .space) z memory (t .length) (t .address)
+
+  abbrev edit : Edit
+  edit = mapEdit limit os ms (t .flags) (t .space) z memory (t .length) (t .address)
+
+  numbers-refuse : Refusals numbers 0
+  unfolding mapNumberChecks
+  numbers-refuse = (λ y. omega (arith, y), (λ y. omega (arith, y), (λ y. omega (arith, y), (λ y. omega (arith, y), (λ y. omega (arith, y), (λ y. omega (arith, y), tt))))))
+
+  -- the numbers refuse
+  pub by-numbers : (w : ℕ) (r : Edit) → w ≡ first numbers 0 → (w ≡ 0 → ⊥) → r ≡ refuse w → r ≡ edit
+  unfolding mapEdit mapChecks
+  by-numbers w r e h k = settle-refused w (first all 0) r _ (stage-refused numbers (places ++ room) w e h) h k
+
+  module _ (w : ℕ) (ew : w ≡ first numbers 0) (zw : w ≡ 0) (p : Placing) (at : Placed os ms t p) where
+    -- the place refuses
+    pub by-place : (r : Edit) → (p .errno ≡ 0 → ⊥) → r ≡ refuse (p .errno) → r ≡ edit
+    unfolding mapEdit mapChecks
+    by-place r h k =
+        settle-refused (p .errno) (first all 0) r _ (stage-passed numbers (places ++ room) w (p .errno) numbers-refuse ew zw (stage-refused places room (p .errno) (at .errno) h)) h k
+
+    module _ (zp : p .errno ≡ 0) (v : Survey) (ev : v ≡ surveyOf ms) (pages full : ℕ) (ep : pages ≡ pagesTouched memory (t .length))
+        (ef : full ≡ first (roomChecks (v .free) limit (v .charge) pages) 0) where
+      room-is : full ≡ first all 0
+      unfolding mapChecks surveyOf
+      room-is =
+          stage-passed numbers (places ++ room) w full numbers-refuse ew zw
+          (stage-passed places room (p .errno) full (place-refuse os ms (t .space) (bit 0 (t .flags)) (t .length) (t .address)) (at .errno) zp (ef ∙ rw (ev, ep)))
+
+      -- the room refuses
+      pub by-room : (r : Edit) → (full ≡ 0 → ⊥) → r ≡ refuse full → r ≡ edit
+      unfolding mapEdit
+      by-room r h k = settle-refused full (first all 0) r _ room-is h k
+
+      -- the mapping is made
+      pub by-making : (r : Edit) (number : ℕ) (m : Mapping) → full ≡ 0 → number ≡ numberIn (v .backing) → m ≡ foundOf number (t .flags) (t .space) memory (t .length) (p .address) → r ≡ mapped (v .free) m → r ≡ edit
+      unfolding mapEdit founding surveyOf
+      by-making r number m zf en em er = settle-taken full (first all 0) r _ room-is zf (er ∙ rw (em, en, ev, at .address zp))

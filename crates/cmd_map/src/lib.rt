@@ -1,0 +1,201 @@
+// What MAP decides over a good table: the numbers of the command first, then the place, then one pass over the records for its room. COPY shares the parts of a new mapping.
+ghost use mathlib.Core.Bool.{true};
+ghost use mathlib.Core.List.{List};
+ghost use mathlib.Core.Path.{_≡_};
+ghost use Prim.Native.Nat.{ℕ, _+_, _≤_};
+ghost use lib.Dec.{ltb};
+ghost use Rattle.lists.specs.Tests.{onlyIf};
+ghost use Rattle.lists.specs.Each.{Each};
+ghost use Rattle.lists.specs.Checks.{first};
+ghost use Rattle.rules_table.specs.declared.Object.{Object};
+ghost use Rattle.rules_table.specs.Records.{spaceAt};
+ghost use Rattle.table.specs.Checked.{recordOk};
+ghost use Rattle.digests.specs.Digest.{Seen};
+ghost use Rattle.landing.specs.Placing.{Placed};
+ghost use Rattle.rules_calls.specs.Map.{rightsOf, numberIn, mapped, noRight, wrongLength, fixedPasses, mapNumberChecks, roomChecks, foundOf, mapEdit};
+use digests::Digest;
+use landing::Placing;
+use landing::Target;
+use rangelists::Found;
+use rules_calls::Change;
+use rules_calls::Edit;
+use rules_table::Mapping;
+
+// ---- the parts of a new mapping
+
+fn one_if(b: bool, n: u32) -> u32
+    ensures { λ r. ⌜ (r ≡ onlyIf b n) × (r ≤ n) ⌝ }
+{
+    if b { n } else { 0 }
+}
+
+// Bit 0 write, bit 1 read.
+pub fn rights_of(flags: u32) -> u32
+    ensures { λ r. ⌜ r ≡ rightsOf flags ⌝ }
+{
+    one_if(opening::is_writeable(flags), 1) + one_if(opening::is_readable(flags), 2)
+}
+
+// The number that was found, 0 where none was.
+fn number_in(f: Found) -> u32
+    requires { ⌜ numberIn f ≤ 128 ⌝ }
+    ensures { λ n. ⌜ n ≡ numberIn f ⌝ }
+{
+    match f {
+        Found::Nothing => 0,
+        Found::At(n) => n as u32,
+    }
+}
+
+// A mapping in the lowest free record, with its address as the reply.
+pub fn put_new(free: Found, m: Mapping) -> Edit
+    ensures { λ e. ⌜ e ≡ mapped free m ⌝ }
+{
+    let Found::At(i) = free else {
+        return edits::refusal(12);
+    };
+    let object = edits::free_object();
+    edits::acceptance(m.address, Change::Map(i, m), object)
+}
+
+// ---- checks that MAP and COPY share
+
+pub fn has_no_right(flags: u32) -> bool
+    ensures { λ b. ⌜ b ≡ noRight flags ⌝ }
+{
+    !checks::either(opening::is_writeable(flags), opening::is_readable(flags))
+}
+
+pub fn is_wrong_length(n: u64) -> bool
+    ensures { λ b. ⌜ b ≡ wrongLength n ⌝ }
+{
+    checks::either(n == 0, 0x100_0000_0000 < n)
+}
+
+pub fn fixed_passes(flags: u32, x: u64, n: u64) -> bool
+    ensures { λ b. ⌜ b ≡ fixedPasses flags x n ⌝ }
+{
+    checks::both(opening::is_fixed(flags), ranges::passes_max(x, n))
+}
+
+// The place of a target, by the digest of the objects for its space. What the range asked touches is asked for a fixed address alone, what blocks is gathered for an automatic one.
+pub fn place_in(d: Digest, ms: [Mapping; 128], t: Target) -> Placing
+    ensures { λ p. ⌜ ((os : List Object) (b : ℕ) → Seen os (t .space) b d → Placed os ms t p) ⌝ }
+{
+    let blocks = d.blocks;
+    if opening::is_fixed(t.flags) {
+        let r = ranges::span_of(t.address, t.length);
+        let reserved = blocks::is_blocked(blocks, t.space, r);
+        let touched = scan::is_taken(ms, t.space, r);
+        return landing::place_fixed(d.alignment, t, reserved, touched);
+    }
+    let o = d.first;
+    let allow = o.allow;
+    let blocked = blocking::blocked_in(blocks, ms, t.space);
+    landing::place_automatic(d.alignment, allow, blocked, t)
+}
+
+// ---- MAP
+
+fn map_number_errno(known: bool, t: Target, zero: u32, memory: u64) -> u8
+    ensures { λ r. ⌜ ((os : List Object) → known ≡ spaceAt os (t .space) → r ≡ first (mapNumberChecks os (t .flags) (t .space) zero memory (t .length) (t .address)) 0) ⌝ }
+{
+    let flags = t.flags;
+    let n = t.length;
+    let unknown = checks::either(opening::has_unknown(flags), zero != 0);
+    let none = has_no_right(flags);
+    let wrong = is_wrong_length(n);
+    let past = ranges::passes_max(memory, n);
+    let fixed = fixed_passes(flags, t.address, n);
+    checks::refuse_if(
+        unknown,
+        95,
+        checks::refuse_if(
+            none,
+            22,
+            checks::refuse_if(
+                wrong,
+                22,
+                checks::refuse_if(
+                    past,
+                    75,
+                    checks::refuse_if(fixed, 75, checks::refuse_if(!known, 2, 0)),
+                ),
+            ),
+        ),
+    )
+}
+
+// Whether so many pages more would pass the limit. No sum is made.
+fn over_limit(limit: u64, charge: u64, pages: u64) -> bool
+    ensures { λ b. ⌜ b ≡ ltb limit (charge + pages) ⌝ }
+{
+    if limit < charge {
+        return true;
+    }
+    if limit - charge < pages {
+        return true;
+    }
+    false
+}
+
+// A free record, and the charge within the limit.
+fn room_errno(free: Found, limit: u64, charge: u64, pages: u64) -> u8
+    ensures { λ r. ⌜ r ≡ first (roomChecks free limit charge pages) 0 ⌝ }
+{
+    let some = rangelists::is_found(free);
+    let over = over_limit(limit, charge, pages);
+    checks::refuse_if(!some, 12, checks::refuse_if(over, 12, 0))
+}
+
+// The mapping that a MAP founds, at an address.
+fn founded(backing: u32, t: Target, memory: u64, address: u64) -> Mapping
+    ensures { λ r. ⌜ r ≡ foundOf backing (t .flags) (t .space) memory (t .length) address ⌝ }
+{
+    Mapping {
+        space: t.space,
+        rights: rights_of(t.flags),
+        founder: one_if(opening::is_writeable(t.flags), 1),
+        backing,
+        address,
+        length: t.length,
+        memory,
+    }
+}
+
+// The digest is that of the objects for the target's space.
+pub fn decide_map(
+    limit: u64,
+    d: Digest,
+    ms: [Mapping; 128],
+    t: Target,
+    zero: u32,
+    memory: u64,
+) -> Edit
+    requires { ⌜ ((os : List Object) × Each (λ m. recordOk os m ≡ true) ms) ⌝ }
+    ensures { λ e. ⌜ ((os : List Object) (b : ℕ) → Seen os (t .space) b d → e ≡ mapEdit limit os ms (t .flags) (t .space) zero memory (t .length) (t .address)) ⌝ }
+{
+    let o = d.first;
+    let k = o.kind;
+    let wrong = map_number_errno(table::is_space(k), t, zero, memory);
+    if wrong != 0 {
+        return edits::refusal(wrong);
+    }
+    let p = place_in(d, ms, t);
+    if p.errno != 0 {
+        return edits::refusal(p.errno);
+    }
+    let v = scan::survey_of(ms);
+    let free = v.free;
+    let full = room_errno(
+        free,
+        limit,
+        v.charge,
+        ranges::pages_touched(memory, t.length),
+    );
+    if full != 0 {
+        return edits::refusal(full);
+    }
+    let number = v.backing;
+    put_new(free, founded(number_in(number), t, memory, p.address))
+}

@@ -1,0 +1,51 @@
+-- The fields read, decided and replied.
+use Rattle.rules_calls.specs.Gate.{tableWith}
+use Rattle.cmd_map_bytes.proofs.Deciding.{seen-at, copy-fields}
+use borrow.Author.Needs.{needs}
+use Rattle.cmd_map_bytes.proofs.copy.Statement.{statement}
+use Rattle.cmd_map_bytes.proofs.copy.Tie as tie
+
+read32-requires : tie.Need-read32-requires
+read32-requires c κs = search needs
+
+read32-requires-2 : tie.Need-read32-requires-2
+read32-requires-2 c κs = search needs
+
+read64-requires : tie.Need-read64-requires
+read64-requires c κs = search needs
+
+read64-requires-2 : tie.Need-read64-requires-2
+read64-requires-2 c κs = search needs
+
+read32-requires-3 : tie.Need-read32-requires-3
+read32-requires-3 c κs = search needs
+
+read64-requires-3 : tie.Need-read64-requires-3
+read64-requires-3 c κs = search needs
+
+decide-copy-requires : tie.Need-decide-copy-requires
+decide-copy-requires c κs = search needs
+
+write-value-requires : tie.Need-write-value-requires
+write-value-requires c κs = search needs
+
+same-length : tie.Need-same-length
+same-length c = search needs
+
+returns : tie.Need-returns
+returns c = (λ limit os h. copy-fields (tableWith limit os _) _ _ _ _ _ _ _ _ (c .before .before .before .before .before .before .before .before .before .before .before .before .before .before .before .read32 .ensures) (c .before .before .before .before .before .before .before .before .before .before .before .before .before .read322 .ensures) (c .before .before .before .before .before .before .before .before .before .before .before .read64 .ensures) (c .before .before .before .before .before .before .before .before .before .read642 .ensures) (c .before .before .before .before .before .before .before .read323 .ensures) (c .before .before .before .before .before .read643 .ensures) (c .before .before .before .before .decide-copy .ensures os (seen-at os _ _ _ _ _ (c .before .before .before .before .before .before .before .before .before .before .before .before .before .before .before .read32 .ensures) (c .before .before .before .before .before .before .before .read323 .ensures) h)), c .before .before .write-value .ensures)
+
+pub copy-spec : {M : Type 1} → statement M
+copy-spec =
+    tie.close
+    (tie.spec
+    read32-requires
+    read32-requires-2
+    read64-requires
+    read64-requires-2
+    read32-requires-3
+    read64-requires-3
+    decide-copy-requires
+    write-value-requires
+    same-length
+    returns)

@@ -1,0 +1,52 @@
+-- The fields read, decided and replied.
+use mathlib.Core.Path.{refl}
+use Rattle.rules_calls.specs.Gate.{tableWith}
+use Rattle.cmd_map_bytes.proofs.Deciding.{seen-at, map-fields}
+use borrow.Author.Needs.{needs}
+use Rattle.cmd_map_bytes.proofs.map.Statement.{statement}
+use Rattle.cmd_map_bytes.proofs.map.Tie as tie
+
+read32-requires : tie.Need-read32-requires
+read32-requires c κs = search needs
+
+read32-requires-2 : tie.Need-read32-requires-2
+read32-requires-2 c κs = search needs
+
+read64-requires : tie.Need-read64-requires
+read64-requires c κs = search needs
+
+read64-requires-2 : tie.Need-read64-requires-2
+read64-requires-2 c κs = search needs
+
+read32-requires-3 : tie.Need-read32-requires-3
+read32-requires-3 c κs = search needs
+
+read64-requires-3 : tie.Need-read64-requires-3
+read64-requires-3 c κs = search needs
+
+decide-map-requires : tie.Need-decide-map-requires
+decide-map-requires c κs = search needs
+
+write-value-requires : tie.Need-write-value-requires
+write-value-requires c κs = search needs
+
+same-length : tie.Need-same-length
+same-length c = search needs
+
+returns : tie.Need-returns
+returns c = (λ os b h. map-fields (tableWith _ os _) _ _ _ _ _ _ _ _ (c .before .before .before .before .before .before .before .before .before .before .before .before .before .before .before .read32 .ensures) (c .before .before .before .before .before .before .before .before .before .before .before .before .before .read322 .ensures) (c .before .before .before .before .before .before .before .before .before .before .before .read64 .ensures) (c .before .before .before .before .before .before .before .before .before .read642 .ensures) (c .before .before .before .before .before .before .before .read323 .ensures) (c .before .before .before .before .before .read643 .ensures) (c .before .before .before .before .decide-map .ensures os b (seen-at os _ _ b b _ (c .before .before .before .before .before .before .before .before .before .before .before .before .before .before .before .read32 .ensures) refl h)), c .before .before .write-value .ensures)
+
+pub map-spec : {M : Type 1} → statement M
+map-spec =
+    tie.close
+    (tie.spec
+    read32-requires
+    read32-requires-2
+    read64-requires
+    read64-requires-2
+    read32-requires-3
+    read64-requires-3
+    decide-map-requires
+    write-value-requires
+    same-length
+    returns)

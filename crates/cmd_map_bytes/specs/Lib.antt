@@ -1,0 +1,1 @@
+-- No definitions: MAP, COPY and UNMAP, whole, stand in rules_calls.

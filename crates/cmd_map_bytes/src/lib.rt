@@ -1,0 +1,80 @@
+// MAP, COPY and UNMAP past the gate: the fields of the command, what is decided, and the reply where it is accepted. A refusal writes no byte.
+ghost use mathlib.Core.Bool.{true};
+ghost use mathlib.Core.List.{List};
+ghost use mathlib.Core.Path.{_≡_};
+ghost use Prim.Native.Nat.{ℕ, _+_, _≤_};
+ghost use lib.ListN.{length};
+ghost use Rattle.lists.specs.Each.{Each};
+ghost use Rattle.wire.specs.Fields.{field};
+ghost use Rattle.rules_table.specs.declared.Object.{Object};
+ghost use Rattle.rules_table.specs.Records.{spaceAt};
+ghost use Rattle.table.specs.Checked.{recordOk};
+ghost use Rattle.rules_calls.specs.Answers.{replied};
+ghost use Rattle.digests.specs.Digest.{Seen};
+ghost use Rattle.rules_calls.specs.Gate.{tableWith};
+ghost use Rattle.rules_calls.specs.Unmap.{unmapDecided};
+ghost use Rattle.rules_calls.specs.Copy.{copyDecided};
+ghost use Rattle.rules_calls.specs.Map.{mapDecided};
+use digests::Digest;
+use landing::Target;
+use rules_calls::Edit;
+use rules_table::Mapping;
+
+// The reply, where there is one: a number of 8 bytes.
+fn write_value(cmd: &mut [u8], off: usize, errno: u8, value: u64)
+    requires { ⌜ off + 8 ≤ length (now cmd) ⌝ }
+    ensures { λ _. ⌜ now (cmd .exit) ≡ replied 8 off errno value (now (cmd .entry)) ⌝ }
+{
+    if errno == 0 {
+        wire::write64(cmd, off, value);
+    }
+}
+
+// MAP: a new mapping with a backing of its own. Its address is written, also where it was fixed.
+pub fn map(limit: u64, d: Digest, ms: [Mapping; 128], cmd: &mut [u8]) -> Edit
+    requires { ⌜ (40 ≤ length (now cmd)) × ((os : List Object) × Each (λ m. recordOk os m ≡ true) ms) ⌝ }
+    ensures { λ e. ⌜ ((os : List Object) (b : ℕ) → Seen os (field 4 (now (cmd .entry)) 8) b d → e ≡ mapDecided (tableWith limit os ms) (now (cmd .entry))) × (now (cmd .exit) ≡ replied 8 32 (e .errno) (e .value) (now (cmd .entry))) ⌝ }
+{
+    let target = Target {
+        space: wire::read32(cmd, 8),
+        flags: wire::read32(cmd, 4),
+        length: wire::read64(cmd, 24),
+        address: wire::read64(cmd, 32),
+    };
+    let zero = wire::read32(cmd, 12);
+    let memory = wire::read64(cmd, 16);
+    let e = cmd_map::decide_map(limit, d, ms, target, zero, memory);
+    write_value(cmd, 32, e.errno, e.value);
+    e
+}
+
+// COPY: a mapping of a source's memory and backing in a target space.
+pub fn copy(d: Digest, ms: [Mapping; 128], cmd: &mut [u8]) -> Edit
+    requires { ⌜ (40 ≤ length (now cmd)) × ((os : List Object) × Each (λ m. recordOk os m ≡ true) ms) ⌝ }
+    ensures { λ e. ⌜ ((limit : ℕ) (os : List Object) → Seen os (field 4 (now (cmd .entry)) 8) (field 4 (now (cmd .entry)) 12) d → e ≡ copyDecided (tableWith limit os ms) (now (cmd .entry))) × (now (cmd .exit) ≡ replied 8 24 (e .errno) (e .value) (now (cmd .entry))) ⌝ }
+{
+    let target = Target {
+        space: wire::read32(cmd, 8),
+        flags: wire::read32(cmd, 4),
+        length: wire::read64(cmd, 16),
+        address: wire::read64(cmd, 24),
+    };
+    let source = wire::read32(cmd, 12);
+    let from = wire::read64(cmd, 32);
+    let e = cmd_copy::decide_copy(d, ms, target, source, from);
+    write_value(cmd, 24, e.errno, e.value);
+    e
+}
+
+// UNMAP: the mappings inside a range go, or all of the space. Their bytes are written.
+pub fn unmap(known: bool, ms: [Mapping; 128], cmd: &mut [u8]) -> Edit
+    requires { ⌜ (24 ≤ length (now cmd)) × ((os : List Object) × Each (λ m. recordOk os m ≡ true) ms) ⌝ }
+    ensures { λ e. ⌜ ((limit : ℕ) (os : List Object) → known ≡ spaceAt os (field 4 (now (cmd .entry)) 4) → e ≡ unmapDecided (tableWith limit os ms) (now (cmd .entry))) × (now (cmd .exit) ≡ replied 8 16 (e .errno) (e .value) (now (cmd .entry))) ⌝ }
+{
+    let space = wire::read32(cmd, 4);
+    let address = wire::read64(cmd, 8);
+    let length = wire::read64(cmd, 16);
+    let e = cmd_unmap::decide_unmap(known, ms, space, address, length);
+    write_value(cmd, 16, e.errno, e.value);
+    e
+}

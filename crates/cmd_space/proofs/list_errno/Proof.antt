@@ -1,0 +1,50 @@
+-- The checks in order.
+use mathlib.Core.Path.{ap, _∙_}
+use mathlib.Core.Bool.{Bool, not}
+use mathlib.Core.List.{List}
+use Rattle.ranges.specs.declared.Range.{Range}
+use Rattle.rangelists.specs.Listed.{allowed}
+use Rattle.rules_table.specs.Good.{listsTouch}
+use Rattle.edits.specs.Settled.{checked, checked-last}
+use Rattle.rules_calls.specs.Allow.{listChecks}
+use Rattle.cmd_space.proofs.Listing.{or-is}
+use borrow.Author.Needs.{needs}
+use Rattle.cmd_space.proofs.list_errno.Statement.{statement}
+use Rattle.cmd_space.proofs.list_errno.Tie as tie
+
+allowed-valid-requires : tie.Need-allowed-valid-requires
+allowed-valid-requires c κs = search needs
+
+allowed-overlap-requires : tie.Need-allowed-overlap-requires
+allowed-overlap-requires c κs = search needs
+
+either-requires : tie.Need-either-requires
+either-requires c κs = search needs
+
+reserved-touches-requires : tie.Need-reserved-touches-requires
+reserved-touches-requires c κs = search needs
+
+refuse-if-requires : tie.Need-refuse-if-requires
+refuse-if-requires c κs = search needs
+
+refuse-if-requires-2 : tie.Need-refuse-if-requires-2
+refuse-if-requires-2 c κs = search needs
+
+returns : tie.Need-returns
+unfolding listChecks
+returns c = λ os g.
+    let a = c .before .before .before .before .before .before .args in
+    checked _ _ _ _ _ _ _ (c .refuse-if2 .ensures) (or-is _ _ _ _ _ (c .before .before .before .either .ensures) (ap (λ (b : Bool). not b) (c .before .before .before .before .before .allowed-valid .ensures)) (c .before .before .before .before .allowed-overlap .ensures))
+    (checked-last _ _ _ _ _ (c .before .refuse-if .ensures) (c .before .before .reserved-touches .ensures ∙ ap (λ (rs : List Range). listsTouch rs (allowed (a .l))) (g .same (a .space))))
+
+pub list-errno-spec : {M : Type 1} → statement M
+list-errno-spec =
+    tie.close
+    (tie.spec
+    allowed-valid-requires
+    allowed-overlap-requires
+    either-requires
+    reserved-touches-requires
+    refuse-if-requires
+    refuse-if-requires-2
+    returns)

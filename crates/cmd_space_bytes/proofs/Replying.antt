@@ -1,0 +1,145 @@
+-- IOVA_RANGES: the reply, the checks before it, and the gate before them.
+use Prim.Native.Nat.{ℕ, zero, suc, _*_, _≤_, min}
+use mathlib.Core.Path.{_≡_, refl, sym, ap, _∙_}
+use mathlib.Core.Bool.{Bool, true, false, cond}
+use mathlib.Core.List.{List, [], _∷_}
+use native.Mathlib.Omega.{arith}
+use lib.Dec.{ltb}
+use lib.ListN.{length, take}
+use borrow.Author.Tests.{ltb-false, ne-eqb}
+use Rattle.lists.specs.Tests.{by-test}
+use Rattle.lists.specs.Checks.{when, first, first-each, first-stays, first-goes, Refusals, passed}
+use Rattle.wire.specs.Fields.{field, put}
+use Rattle.rules_calls.specs.declared.Opening.{Opening}
+use Rattle.rules_calls.specs.declared.Opening.the-variants.{UnknownRequest, NoSizeField, SizeTooSmall, SizePastBytes, TailNotZero, Open}
+use Rattle.rules_calls.specs.Opening.{opened, openingErrno}
+use Rattle.blocks.specs.declared.Blocks.{Blocks}
+use Rattle.blocks.specs.Blocked.{blocked, blockedFor-length}
+use Rattle.freeranges.specs.Free.{freeRanges}
+use Rattle.freeranges.specs.Fewest.{free-length}
+use Rattle.freeranges.specs.Written.{putRanges}
+use Rattle.rules_table.specs.declared.Object.{Object}
+use Rattle.rules_table.specs.declared.Table.{Table}
+use Rattle.rules_table.specs.Good.{good}
+use Rattle.rules_table.specs.Spaces.{alignment}
+use Rattle.rules_calls.specs.declared.Edit.{Edit}
+use Rattle.rules_calls.specs.Edits.{refuse}
+use Rattle.facts.specs.Gathered.{Gathered}
+use Rattle.rules_calls.specs.Ranges.{freeOf, rangesChecks, rangesErrno, repliesTo, rangesBytes, rangesArea, errnoOr, rangesCall, rangesReply, rangesWritten}
+use Rattle.rules_calls.specs.Gate.{gateErrno}
+use Rattle.cmd_space_bytes.specs.Replied.{RangesReply, RangesDone}
+
+-- ---- the reply
+
+-- there are at most 129 free ranges
+pub full-small : (b : Blocks) (s n : ℕ) → n ≡ length (freeRanges (blocked s b)) → n ≤ 129
+unfolding blocked
+full-small b s n e = omega (arith, free-length (blocked s b), blockedFor-length (min (b .count) 128) s (b .spaces) (b .starts) (b .lasts))
+
+module _ (os : List Object) (b : Blocks) (g : Gathered os b) (s : ℕ) where
+  free-is : freeRanges (blocked s b) ≡ freeOf os s
+  unfolding freeOf
+  free-is = ap freeRanges (g .same s)
+
+  pub replied : (count n a : ℕ) (cmd cmd1 cmd2 area area1 : List ℕ) → n ≡ length (freeRanges (blocked s b)) → area1 ≡ putRanges 0 (take count (freeRanges (blocked s b))) area
+      → a ≡ alignment os s → cmd1 ≡ put 4 cmd 8 n → cmd2 ≡ put 8 cmd1 24 a → RangesReply os s count n cmd cmd2 area area1
+  unfolding rangesBytes rangesArea
+  replied count n a cmd cmd1 cmd2 area area1 en er ea e1 e2 = record {
+    full = en ∙ ap length free-is;
+    bytes = e2 ∙ rw (e1, ea, en, free-is);
+    ranges = er ∙ rw free-is;
+  }
+
+-- ---- the checks
+
+single-check : (b : Bool) → _≡_ {A = ℕ} (first (when b 90 ∷ []) 0) (cond b 90 0)
+unfolding first
+single-check true = refl
+single-check false = refl
+
+checks-refuse : (os : List Object) (s count z room : ℕ) → Refusals (rangesChecks os s count z room) 0
+unfolding rangesChecks
+checks-refuse os s count z room = (λ y. omega (arith, y), (λ y. omega (arith, y), (λ y. omega (arith, y), tt)))
+
+-- the area has room for count ranges
+pub ranges-room : (os : List Object) (s count z room : ℕ) → 0 ≡ first (rangesChecks os s count z room) 0 → 16 * count ≤ room
+unfolding rangesChecks
+ranges-room os s count z room e = ltb-false room (16 * count) (passed (rangesChecks os s count z room) 0 (when false 0) (checks-refuse os s count z room) (sym e) 2 (omega arith))
+
+module _ (os : List Object) (cmd area : List ℕ) where
+  -- no check before the reply gives 90
+  not-90 : first (rangesChecks os (field 4 cmd 4) (field 4 cmd 8) (field 4 cmd 12) (length area)) 0 ≡ 90 → ⊥
+  unfolding rangesChecks
+  not-90 = first-each (λ (n : ℕ). n ≡ 90 → ⊥) (rangesChecks os (field 4 cmd 4) (field 4 cmd 8) (field 4 cmd 12) (length area)) 0
+      (λ y. omega (arith, y), (λ y. omega (arith, y), (λ y. omega (arith, y), tt))) (λ y. omega (arith, y))
+
+  pub ranges-refused : (n count z : ℕ) → count ≡ field 4 cmd 8 → z ≡ field 4 cmd 12 → n ≡ first (rangesChecks os (field 4 cmd 4) count z (length area)) 0 → (n ≡ 0 → ⊥) → RangesDone os n cmd cmd area area
+  unfolding rangesErrno
+  ranges-refused n count z ec ez e h =
+      let f : n ≡ first (rangesChecks os (field 4 cmd 4) (field 4 cmd 8) (field 4 cmd 12) (length area)) 0 = e ∙ rw (ec, ez) in
+      let silent : repliesTo n ≡ false = rw (ne-eqb n 0 h) (ne-eqb n 90 (λ y. not-90 (sym f ∙ y))) in
+      record {
+        errno = first-stays (rangesChecks os (field 4 cmd 4) (field 4 cmd 8) (field 4 cmd 12) (length area)) 0 n _ f h;
+        bytes = sym (rw silent);
+        ranges = sym (rw silent);
+      }
+
+  replies : (b : Bool) → repliesTo (cond b 90 0) ≡ true
+  replies true = refl
+  replies false = refl
+
+  pub ranges-done : (n m full s count z : ℕ) (cmd′ area′ : List ℕ) → s ≡ field 4 cmd 4 → count ≡ field 4 cmd 8 → z ≡ field 4 cmd 12 → m ≡ first (rangesChecks os (field 4 cmd 4) count z (length area)) 0 → m ≡ 0
+      → RangesReply os s count full cmd cmd′ area area′ → n ≡ first (when (ltb count full) 90 ∷ []) 0 → RangesDone os n cmd cmd′ area area′
+  unfolding rangesErrno
+  ranges-done n m full s count z cmd′ area′ es ec ez em zero-m r e =
+      let f : 0 ≡ first (rangesChecks os (field 4 cmd 4) (field 4 cmd 8) (field 4 cmd 12) (length area)) 0 = sym zero-m ∙ em ∙ rw (ec, ez) in
+      let d : n ≡ cond (ltb (field 4 cmd 8) (length (freeOf os (field 4 cmd 4)))) 90 0 = e ∙ single-check (ltb count full) ∙ rw (ec, r .full, es) in
+      let writes : repliesTo n ≡ true = rw d (replies (ltb (field 4 cmd 8) (length (freeOf os (field 4 cmd 4))))) in
+      record {
+        errno = d ∙ first-goes (rangesChecks os (field 4 cmd 4) (field 4 cmd 8) (field 4 cmd 12) (length area)) 0 _ (checks-refuse os (field 4 cmd 4) (field 4 cmd 8) (field 4 cmd 12) (length area)) f;
+        bytes = r .bytes ∙ rw (es, writes);
+        ranges = r .ranges ∙ rw (es, ec, writes);
+      }
+
+-- ---- the edit
+
+pub ranges-edit : (os : List Object) (n : ℕ) (e : Edit) (cmd cmd′ area area′ : List ℕ) → e ≡ refuse n → RangesDone os n cmd cmd′ area area′ → (e ≡ refuse (e .errno)) × RangesDone os (e .errno) cmd cmd′ area area′
+ranges-edit os n e cmd cmd′ area area′ k d = rw k (refl, d)
+
+-- ---- the gate
+
+-- no errno of the gate is 90
+pub gate-90 : (t : Table) (n : ℕ) (bytes : List ℕ) → gateErrno t n bytes ≡ 90 → ⊥
+unfolding gateErrno
+gate-90 t n bytes e = by-test (good t) (λ g. open-90 (opened n bytes) (sym (rw g) ∙ e)) (λ g. let z : _≡_ {A = ℕ} 117 90 = sym (rw g) ∙ e in omega (arith, z))
+  where
+    open-90 : (o : Opening) → openingErrno o ≡ 90 → ⊥
+    open-90 UnknownRequest e = omega (arith, e)
+    open-90 NoSizeField e = omega (arith, e)
+    open-90 SizeTooSmall e = omega (arith, e)
+    open-90 SizePastBytes e = omega (arith, e)
+    open-90 TailNotZero e = omega (arith, e)
+    open-90 (Open c) e = omega (arith, e)
+
+pub errno-refused : (n m k : ℕ) → n ≡ m → (n ≡ 0 → ⊥) → n ≡ errnoOr m k
+errno-refused n zero k e h = absurd (h e)
+errno-refused n (suc m) k e h = e
+
+pub errno-passed : (n m k : ℕ) → n ≡ m → n ≡ 0 → k ≡ errnoOr m k
+errno-passed n zero k e h = refl
+errno-passed n (suc m) k e h = absurd (omega arith)
+
+pub ranges-gated : (t : Table) (cmd area : List ℕ) (n : ℕ) → n ≡ gateErrno t 0x3B84 cmd → (n ≡ 0 → ⊥)
+    → (refuse n ≡ refuse (rangesCall t cmd area)) × (cmd ≡ rangesReply t cmd area) × (area ≡ rangesWritten t cmd area)
+unfolding rangesReply rangesWritten rangesCall
+ranges-gated t cmd area n e h =
+    let same : n ≡ rangesCall t cmd area = errno-refused n (gateErrno t 0x3B84 cmd) (rangesErrno (t .objects) (field 4 cmd 4) (field 4 cmd 8) (field 4 cmd 12) area) e h in
+    let silent : repliesTo (rangesCall t cmd area) ≡ false = rw (← same) (rw (ne-eqb n 0 h) (ne-eqb n 90 (λ y. gate-90 t 0x3B84 cmd (sym e ∙ y)))) in
+    (ap refuse same, sym (rw silent), sym (rw silent))
+
+pub ranges-answered : (t : Table) (cmd area cmd′ area′ : List ℕ) (n : ℕ) → gateErrno t 0x3B84 cmd ≡ 0 → RangesDone (t .objects) n cmd cmd′ area area′
+    → (refuse n ≡ refuse (rangesCall t cmd area)) × (cmd′ ≡ rangesReply t cmd area) × (area′ ≡ rangesWritten t cmd area)
+unfolding rangesReply rangesWritten rangesCall
+ranges-answered t cmd area cmd′ area′ n h d =
+    let same : n ≡ rangesCall t cmd area = d .errno ∙ errno-passed 0 (gateErrno t 0x3B84 cmd) (rangesErrno (t .objects) (field 4 cmd 4) (field 4 cmd 8) (field 4 cmd 12) area) (sym h) refl in
+    (ap refuse same, d .bytes ∙ rw same, d .ranges ∙ rw same)

@@ -1,0 +1,1 @@
+-- No definitions: what UNMAP decides stands in rules_calls.

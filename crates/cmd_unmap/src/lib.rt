@@ -1,0 +1,71 @@
+// What UNMAP decides over a good table. One pass tells whether a mapping is cut, whether one goes, and the bytes: nothing is removed before.
+ghost use mathlib.Core.Bool.{true};
+ghost use mathlib.Core.List.{List};
+ghost use mathlib.Core.Path.{_≡_};
+ghost use Prim.Native.Nat.{ℕ};
+ghost use Rattle.lists.specs.Each.{Each};
+ghost use Rattle.lists.specs.Checks.{first};
+ghost use Rattle.rules_table.specs.declared.Object.{Object};
+ghost use Rattle.rules_table.specs.Records.{spaceAt};
+ghost use Rattle.table.specs.Checked.{recordOk};
+ghost use Rattle.rules_calls.specs.Unmap.{asksAll, rangeAsked, unmapNumberChecks, removalBy, unmapEdit};
+use ranges::Range;
+use rules_calls::Change;
+use rules_calls::Edit;
+use rules_table::Mapping;
+
+fn asks_all(a: u64, n: u64) -> bool
+    ensures { λ b. ⌜ b ≡ asksAll a n ⌝ }
+{
+    checks::both(a == 0, n == ranges::U64MAX)
+}
+
+// Every address in the remove-all form: the last one too.
+fn range_asked(a: u64, n: u64) -> Range
+    ensures { λ r. ⌜ r ≡ rangeAsked a n ⌝ }
+{
+    if asks_all(a, n) {
+        return Range {
+            start: 0,
+            last: ranges::U64MAX,
+        };
+    }
+    ranges::span_of(a, n)
+}
+
+fn unmap_number_errno(known: bool, a: u64, n: u64) -> u8
+    ensures { λ r. ⌜ ((os : List Object) (s : ℕ) → known ≡ spaceAt os s → r ≡ first (unmapNumberChecks os s a n) 0) ⌝ }
+{
+    let past = ranges::passes_max(a, n);
+    checks::refuse_if(
+        n == 0,
+        22,
+        checks::refuse_if(past, 75, checks::refuse_if(!known, 2, 0)),
+    )
+}
+
+// Whether a mapping is cut, then whether some mapping goes.
+fn removal_errno(all: bool, cut: bool, some: bool) -> u8
+    ensures { λ r. ⌜ r ≡ first (removalBy all cut some) 0 ⌝ }
+{
+    let none = checks::both(!all, !some);
+    checks::refuse_if(cut, 2, checks::refuse_if(none, 2, 0))
+}
+
+pub fn decide_unmap(known: bool, ms: [Mapping; 128], s: u32, a: u64, n: u64) -> Edit
+    requires { ⌜ ((os : List Object) × Each (λ m. recordOk os m ≡ true) ms) ⌝ }
+    ensures { λ e. ⌜ ((os : List Object) → known ≡ spaceAt os s → e ≡ unmapEdit os ms s a n) ⌝ }
+{
+    let wrong = unmap_number_errno(known, a, n);
+    if wrong != 0 {
+        return edits::refusal(wrong);
+    }
+    let r = range_asked(a, n);
+    let v = scan::removal_of(ms, s, r);
+    let kept = removal_errno(asks_all(a, n), v.cut, v.some);
+    if kept != 0 {
+        return edits::refusal(kept);
+    }
+    let object = edits::free_object();
+    edits::acceptance(v.bytes, Change::Clear(s, r), object)
+}

@@ -1,4 +1,0 @@
-pub mod Lookups
-pub mod Steps
-pub mod Words
-pub mod Checking

@@ -1,2 +1,0 @@
--- What COPY decides over a good table.
-pub mod Copy

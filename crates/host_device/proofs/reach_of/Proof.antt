@@ -1,0 +1,55 @@
+-- By the checks, then by the mapping found.
+use native.Mathlib.Omega.{arith}
+use mathlib.Core.Path.{ap, _∙_}
+use Rattle.ranges.specs.declared.Range.{Range}
+use Rattle.rules_calls.specs.Reach.{around}
+use Rattle.host_device.specs.Held.{held}
+use Rattle.host_device.proofs.Reaching.{reach-refused, reach-nowhere, reach-found, around-fits}
+use borrow.Author.Needs.{needs}
+use Rattle.host_device.proofs.reach_of.Statement.{statement}
+use Rattle.host_device.proofs.reach_of.Tie as tie
+
+reach-errno-requires : tie.Need-reach-errno-requires
+reach-errno-requires c κs = search needs
+
+returns : tie.Need-returns
+returns c = λ os d e. reach-refused os _ d _ _ _ _ e _ (c .before .reach-errno .ensures) (c .if1 .taken)
+
+home-of-requires : tie.Need-home-of-requires
+home-of-requires c κs = search needs
+
+span-of-requires : tie.Need-span-of-requires
+span-of-requires c κs = search needs
+
+find-around-requires : tie.Need-find-around-requires
+find-around-requires c κs = search needs
+
+enum-known-f : tie.Need-enum-known-f
+enum-known-f c = search needs
+
+enum-told : tie.Need-enum-told
+enum-told c = search needs
+
+returns-2 : tie.Need-returns-2
+returns-2 c = λ os d e. reach-nowhere os _ d _ _ _ _ e _ (c .before .before .before .before .before .before .reach-errno .ensures) _ _ _ (omega arith) (c .before .before .before .before .home-of .ensures) (c .before .before .before .span-of .ensures) (c .before .before .find-around .ensures) (c .enum-told .given .1)
+
+reach-in-requires : tie.Need-reach-in-requires
+reach-in-requires c κs = let s = c .before .before .before .before .before .before .before .before in around-fits (s .pre .0) _ _ _ _ _ (c .before .before .before .find-around .ensures ∙ ap (λ (r : Range). held (around (s .args .ms) (c .before .before .before .before .before .home-of .result) r)) (c .before .before .before .before .span-of .ensures)) _ (c .before .f .given .1) (omega arith) (s .pre .1)
+
+returns-3 : tie.Need-returns-3
+returns-3 c = λ os d e. reach-found os _ d _ _ _ _ e _ (c .before .before .before .before .before .before .before .before .reach-errno .ensures) _ _ _ (omega arith) (c .before .before .before .before .before .before .home-of .ensures) (c .before .before .before .before .before .span-of .ensures) (c .before .before .before .before .find-around .ensures) _ _ (c .before .before .f .given .1) (c .reach-in .ensures)
+
+pub reach-of-spec : {M : Type 1} → statement M
+reach-of-spec =
+    tie.close
+    (tie.spec
+    reach-errno-requires
+    returns
+    home-of-requires
+    span-of-requires
+    find-around-requires
+    enum-known-f
+    enum-told
+    returns-2
+    reach-in-requires
+    returns-3)

@@ -1,0 +1,25 @@
+-- A length that misfits, or the lowest candidate.
+use borrow.Author.Tests.{not-true, not-false}
+use Rattle.landing.proofs.Finding.{automatic-misfit, automatic-found}
+use borrow.Author.Needs.{needs}
+use Rattle.landing.proofs.automatic_place.Statement.{statement}
+use Rattle.landing.proofs.automatic_place.Tie as tie
+
+is-multiple-requires : tie.Need-is-multiple-requires
+is-multiple-requires c κs = search needs
+
+returns : tie.Need-returns
+returns c = λ os ms s ea eo el. automatic-misfit os ms s _ _ _ ea (c .before .is-multiple .ensures) (not-true _ (c .if1 .taken))
+
+place-requires : tie.Need-place-requires
+place-requires c κs = search needs
+
+placing-of-requires : tie.Need-placing-of-requires
+placing-of-requires c κs = search needs
+
+returns-2 : tie.Need-returns-2
+returns-2 c = λ os ms s ea eo el. automatic-found os ms s _ _ _ _ _ _ _ ea (c .before .before .before .is-multiple .ensures) (not-false _ (c .before .before .if1 .left)) el eo (c .before .place .ensures .0) (c .placing-of .ensures)
+
+pub automatic-place-spec : {M : Type 1} → statement M
+automatic-place-spec =
+    tie.close (tie.spec is-multiple-requires returns place-requires placing-of-requires returns-2)

@@ -1,0 +1,3 @@
+-- Where a new mapping lands.
+pub mod Placing
+pub mod Landed

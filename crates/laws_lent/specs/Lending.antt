@@ -1,0 +1,161 @@
+-- A sequence of calls on a table that lies in the caller's memory: each gets the head and the mapping records as the last one left them. The definitions are those that the
+-- contracts of the archive's entries cite; the table that is lent goes the same way as a table by value, so demand 3 holds of it.
+use Prim.Native.Nat.{ℕ, zero, suc, _≤_, _<_, _-_, _^_, _%_}
+use mathlib.Core.Path.{_≡_, refl, sym, ap, _∙_}
+use mathlib.Core.List.{List, [], _∷_, map}
+use native.Mathlib.Omega.{arith}
+use lib.IntN.{ℤ}
+use lib.ListN.{length, length-set, length-map, length-replicate, replicate}
+use Rattle.lists.specs.Checks.{first}
+use Rattle.rules_calls.specs.Results.{result}
+use Rattle.rules_table.specs.declared.Object.{Object}
+use Rattle.rules_table.specs.declared.Mapping.{Mapping}
+use Rattle.rules_table.specs.declared.Table.{Table}
+use Rattle.rules_table.specs.Records.{freeObject, objectAt, zeroMapping, freshTable}
+use Rattle.rules_calls.specs.declared.Change.{Change}
+use Rattle.rules_calls.specs.declared.Change.the-variants.{Nothing, Put, Drop, Map, Clear}
+use Rattle.rules_calls.specs.declared.Edit.{Edit}
+use Rattle.rules_calls.specs.declared.Answer.{Answer}
+use Rattle.rules_calls.specs.Edits.{accept, settle, applied}
+use Rattle.rules_calls.specs.Answers.{outcome, idOr, outcomeId}
+use Rattle.rules_calls.specs.Attach.{attachChecks, attachedObject, attachEdit, detachChecks, looseObject, detachEdit, attachCall, detachCall}
+use Rattle.rules_calls.specs.Reach.{reachOf}
+use Rattle.rules_calls.specs.declared.Reached.{Reached}
+use Rattle.rules_calls.specs.Bind.{bindCall}
+use Rattle.rules_calls.specs.Gate.{tableErrno}
+use Rattle.rules_calls.specs.Orders.{bindOrder, attachOrder, detachOrder, reachOrder, reachTold, hostEdit}
+use Rattle.host_calls.proofs.Guarding.{bind-value, reach-is}
+use Rattle.rules_calls.specs.Call.{callDone, callEdit}
+use Rattle.iommufd.specs.Deciding.{call-edit}
+use Rattle.rules_history.specs.Calls.{Call, Reply, replyOf, tableAfter, Event, trace, after}
+use Rattle.rules_history.specs.Ledger.{empty, ledgerOf}
+use Rattle.rules_history.specs.Told.{Demand3}
+use Rattle.laws_history.specs.History.{demand-3}
+use Rattle.rules_table.specs.declared.Head.{Head}
+use Rattle.rules_table.specs.Layout.{encoded, decoded, tableOf, withRecord, freshHead}
+use Rattle.layout.specs.Laws.{decode-encode}
+use Rattle.rules_lent.specs.Lent.{headBy, headAfter, recordsAfter}
+use Rattle.lent_calls.specs.Applied.{after-edit}
+use Rattle.rules_lent.specs.Entries.{hostResult, toldBy}
+
+-- a table in the caller's memory, and the table that it stands for
+pub record Lent : Type 0 where
+  pub head : Head
+  pub records : List Mapping
+
+abbrev pub lentTable : Lent → Table
+lentTable l = tableOf (l .head) (l .records)
+
+-- the edit that a call decides
+abbrev pub editOf : Call → Table → Edit
+editOf (Call.Command request bytes area) t = callEdit t request bytes area
+editOf (Call.Bind bitmap r) t = hostEdit t (bindOrder bitmap r)
+editOf (Call.Attach d s) t = hostEdit t (attachOrder d s)
+editOf (Call.Detach d) t = hostEdit t (detachOrder d)
+editOf (Call.Reach d a n write) t = hostEdit t (reachOrder d a n write)
+
+-- what an entry leaves, and what it answers
+abbrev pub lentAfter : Call → Lent → Lent
+lentAfter c l = record { head = headAfter (editOf c (lentTable l)) (l .head); records = recordsAfter (editOf c (lentTable l)) (l .records) }
+
+abbrev pub lentReply : Call → Lent → Reply
+lentReply (Call.Command request bytes area) l = record { result = result (callEdit (lentTable l) request bytes area .errno); bytes = callDone (lentTable l) request bytes area .bytes }
+lentReply (Call.Bind bitmap r) l = record { result = hostResult (hostEdit (lentTable l) (bindOrder bitmap r)); bytes = [] }
+lentReply (Call.Attach d s) l = record { result = hostResult (hostEdit (lentTable l) (attachOrder d s)); bytes = [] }
+lentReply (Call.Detach d) l = record { result = hostResult (hostEdit (lentTable l) (detachOrder d)); bytes = [] }
+lentReply (Call.Reach d a n write) l = record { result = toldBy (hostEdit (lentTable l) (reachOrder d a n write)) .result; bytes = [] }
+
+unfoldable pub lentTrace : List Call → Lent → List Event
+lentTrace [] l = []
+lentTrace (c ∷ cs) l = record { call = c; reply = lentReply c l } ∷ lentTrace cs (lentAfter c l)
+
+unfoldable pub lentRun : List Call → Lent → Lent
+lentRun [] l = l
+lentRun (c ∷ cs) l = lentRun cs (lentAfter c l)
+
+abbrev pub lentFresh : ℕ → Lent
+lentFresh limit = record { head = freshHead limit; records = replicate 128 zeroMapping }
+
+-- ---- one call
+
+-- there are always 32 objects
+still : (h : Head) (o : Object) (c : Change) → length (h .objects) ≡ 32 → length (headBy h o c .objects) ≡ 32
+unfolding withRecord
+still h o Nothing n = n
+still h o (Put i) n = length-set (h .objects) i (encoded o) ∙ n
+still h o (Drop i) n = length-set (h .objects) i (encoded freeObject) ∙ n
+still h o (Map i m) n = n
+still h o (Clear s r) n = n
+
+step-still : (c : Call) (l : Lent) → length (l .head .objects) ≡ 32 → length (lentAfter c l .head .objects) ≡ 32
+unfolding headAfter
+step-still c l n = let e = editOf c (lentTable l) in still (l .head) (e .object) (e .change) n
+
+-- by value, a call's table is its edit, applied
+by-value : (c : Call) (t : Table) → applied t (editOf c t) ≡ tableAfter c t
+unfolding outcome outcomeId bindCall attachCall detachCall hostEdit applied
+by-value (Call.Command request bytes area) t = sym (ap (λ (a : Answer). a .table) (call-edit t request bytes area))
+by-value (Call.Bind bitmap r) t = refl
+by-value (Call.Attach d s) t = refl
+by-value (Call.Detach d) t = refl
+by-value (Call.Reach d a n write) t = nothing (tableErrno t)
+  where
+    nothing : (m : ℕ) → applied t (settle m (reachTold (reachOf (t .objects) (t .mappings) d a n write))) ≡ t
+    nothing zero = refl
+    nothing (suc m) = refl
+
+step-table : (c : Call) (l : Lent) → length (l .head .objects) ≡ 32 → lentTable (lentAfter c l) ≡ tableAfter c (lentTable l)
+step-table c l n = after-edit (l .head) n (l .records) (editOf c (lentTable l)) ∙ by-value c (lentTable l)
+
+same-id : (m n : ℕ) → n < 256 → idOr m (n % 256) ≡ idOr m n
+same-id zero n h = ap (idOr 0) (omega (arith, h))
+same-id (suc m) n h = refl
+
+-- attach and detach tell no number
+no-number : (m k : ℕ) (c : Change) (o : Object) → hostResult (settle m (settle k (accept 0 c o))) ≡ result (settle m (settle k (accept 0 c o)) .errno)
+unfolding result
+no-number zero zero c o = refl
+no-number zero (suc k) c o = refl
+no-number (suc m) k c o = refl
+
+step-reply : (c : Call) (l : Lent) → length (l .head .objects) ≡ 32 → lentReply c l ≡ replyOf c (lentTable l)
+unfolding outcome outcomeId bindCall attachCall attachEdit detachCall detachEdit hostEdit tableOf
+step-reply (Call.Command request bytes area) l n = rw (call-edit (lentTable l) request bytes area)
+step-reply (Call.Bind bitmap r) l n =
+    let e = hostEdit (lentTable l) (bindOrder bitmap r) in
+    ap (λ (z : ℤ). record { result = z; bytes = [] }) (same-id (e .errno) (e .value) (bind-value (lentTable l) bitmap r e (length-map (l .head .objects) decoded ∙ n) refl))
+step-reply (Call.Attach d s) l n = ap (λ (z : ℤ). record { result = z; bytes = [] }) (no-number (tableErrno (lentTable l)) (first (attachChecks (lentTable l .objects) (l .records) (objectAt (lentTable l .objects) d) s) 0) (Put (d - 1)) (attachedObject (objectAt (lentTable l .objects) d) s))
+step-reply (Call.Detach d) l n = ap (λ (z : ℤ). record { result = z; bytes = [] }) (no-number (tableErrno (lentTable l)) (first (detachChecks (objectAt (lentTable l .objects) d)) 0) (Put (d - 1)) (looseObject (objectAt (lentTable l .objects) d)))
+step-reply (Call.Reach d a m write) l n =
+    let e = hostEdit (lentTable l) (reachOrder d a m write) in
+    ap (λ (x : Reached). record { result = x .result; bytes = [] }) (reach-is (lentTable l) d a m write e (result (e .errno)) refl refl)
+
+-- ---- the sequence
+
+-- THE LAWS: the table that is lent goes as the table by value, and the answers are the same
+pub lent-after : (cs : List Call) (l : Lent) → length (l .head .objects) ≡ 32 → lentTable (lentRun cs l) ≡ after cs (lentTable l)
+unfolding lentRun after
+lent-after [] l n = refl
+lent-after (c ∷ cs) l n = lent-after cs (lentAfter c l) (step-still c l n) ∙ ap (after cs) (step-table c l n)
+
+pub lent-trace : (cs : List Call) (l : Lent) → length (l .head .objects) ≡ 32 → lentTrace cs l ≡ trace cs (lentTable l)
+unfolding lentTrace trace
+lent-trace [] l n = refl
+lent-trace (c ∷ cs) l n = rw (step-reply c l n, lent-trace cs (lentAfter c l) (step-still c l n), step-table c l n)
+
+free-decoded : (n : ℕ) → map decoded (replicate n (encoded freeObject)) ≡ replicate n freeObject
+free-decoded zero = refl
+free-decoded (suc n) = rw (decode-encode freeObject, free-decoded n)
+
+fresh-lent : (limit : ℕ) → lentTable (lentFresh limit) ≡ freshTable limit
+unfolding tableOf freshHead freshTable
+fresh-lent limit = ap (λ (os : List Object). record { limit = limit; objects = os; mappings = replicate 128 zeroMapping }) (free-decoded 32)
+
+fresh-many : (limit : ℕ) → length (freshHead limit .objects) ≡ 32
+unfolding freshHead
+fresh-many limit = length-replicate 32 (encoded freeObject)
+
+-- THE THEOREM: demand 3, whole, for a table in the caller's memory
+pub demand-3-lent : (limit : ℕ) → limit ≤ 2 ^ 36 → (cs : List Call) → Demand3 limit (ledgerOf (lentTrace cs (lentFresh limit)) empty) (lentTable (lentRun cs (lentFresh limit)))
+demand-3-lent limit h cs =
+    rw (lent-trace cs (lentFresh limit) (fresh-many limit), lent-after cs (lentFresh limit) (fresh-many limit), fresh-lent limit) (demand-3 limit h cs)

@@ -1,0 +1,4 @@
+-- Calls on a lent table.
+pub mod Lent
+pub mod Applied
+pub mod Endings

@@ -1,5 +1,0 @@
--- Calls on a lent table.
-pub mod Lent
-pub mod Applied
-pub mod Entries
-pub mod Endings

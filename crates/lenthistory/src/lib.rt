@@ -1,1 +1,0 @@
-// The sequence of calls on a lent table. No code: see specs/.

@@ -1,2 +1,0 @@
--- Laws for the calls that decide an edit.
-pub mod Settled

@@ -1,0 +1,3 @@
+pub mod Lookups
+pub mod Steps
+pub mod Words

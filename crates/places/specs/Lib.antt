@@ -1,4 +1,0 @@
--- Where a new mapping lands.
-pub mod Places
-pub mod Placing
-pub mod Landed

@@ -1,1 +1,0 @@
-// A refusal writes nothing: a theorem for each call. No code: see specs/.

@@ -1,0 +1,19 @@
+-- The calls (document 01, from "Commands and their bytes" to "Host calls"): opening, edits, where a mapping lands, one file a command, host calls, the one door.
+pub mod Requests
+pub mod Opening
+pub mod Results
+pub mod Edits
+pub mod Answers
+pub mod Gate
+pub mod Landing
+pub mod Map
+pub mod Copy
+pub mod Unmap
+pub mod Objects
+pub mod Allow
+pub mod Ranges
+pub mod Bind
+pub mod Attach
+pub mod Reach
+pub mod Orders
+pub mod Call

@@ -1,0 +1,53 @@
+-- What is left from number b on answers for all.
+use borrow.Author.Needs.{needs}
+use native.Mathlib.Omega.{arith}
+use Prim.Native.Nat.{_-_, _≤_}
+use mathlib.Core.Path.{_≡_}
+use lib.Dec.{eqb}
+use lib.ListN.{length, getD}
+use Rattle.lists.specs.Below.{lowest}
+use Rattle.rangelists.specs.Listed.{found}
+use Rattle.scan.proofs.Surveying.{unmarkedLeft, unmarked-start, unmarked-found, unmarked-on, unmarked-end}
+use Rattle.scan.proofs.lowest_unmarked.Statement.{statement}
+use Rattle.scan.proofs.lowest_unmarked.Tie as tie
+
+abbrev Inv-loop : tie.InvT-loop
+Inv-loop marks b₀ b = (b ≤ 129) × (length marks ≡ 129) × (unmarkedLeft b marks ≡ found (lowest (λ b. eqb (getD marks b 0) 0) 128 1))
+
+abbrev μ-loop : tie.MeasureT-loop
+μ-loop marks b₀ b = 129 - b
+
+loop-holds : tie.Need-loop-holds Inv-loop μ-loop
+loop-holds c = (search needs, search needs, unmarked-start _ _ (omega arith))
+
+array-read-mark : tie.Need-array-read-mark Inv-loop μ-loop
+array-read-mark c = search needs
+
+returns : tie.Need-returns Inv-loop μ-loop
+returns c = let l = c .before .before .loop in unmarked-found _ (l .b) (l .inv .2) (omega arith) (omega arith)
+
+add-b : tie.Need-add-b Inv-loop μ-loop
+add-b c = search needs
+
+loop-less : tie.Need-loop-less Inv-loop μ-loop
+loop-less c = search needs
+
+loop-again : tie.Need-loop-again Inv-loop μ-loop
+loop-again c = let l = c .before .before .loop in (search needs, search needs, unmarked-on _ (l .b) (l .inv .2) (omega arith) (c .if1 .left))
+
+returns-2 : tie.Need-returns-2 Inv-loop μ-loop
+returns-2 c = let l = c .before .loop in unmarked-end _ (l .b) (l .inv .2) (omega arith)
+
+pub lowest-unmarked-spec : {M : Type 1} → statement M
+lowest-unmarked-spec =
+    tie.close
+    (tie.spec
+    Inv-loop
+    μ-loop
+    loop-holds
+    array-read-mark
+    returns
+    add-b
+    loop-less
+    loop-again
+    returns-2)

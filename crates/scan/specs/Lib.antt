@@ -1,0 +1,3 @@
+-- The passes over the mapping records by which MAP, COPY and UNMAP decide.
+pub mod Surveyed
+pub mod Removed

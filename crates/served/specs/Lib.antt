@@ -1,1 +1,0 @@
--- A lent table for callers that hold it by value.

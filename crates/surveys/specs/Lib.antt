@@ -1,4 +1,0 @@
--- The passes over the mapping records by which MAP, COPY and UNMAP decide.
-pub mod Surveyed
-pub mod Sourced
-pub mod Removed

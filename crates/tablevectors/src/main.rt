@@ -1,6 +1,0 @@
-// Replays the runs of calls that place no mapping. tests/tablevectors.py makes them.
-fn main() {
-    let mut input = io::large_buffer();
-    let n = io::read_full(0, &mut input);
-    replay::run(&input[..n]);
-}

@@ -1,2 +1,0 @@
--- What UNMAP decides over a good table.
-pub mod Unmap
