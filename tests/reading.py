@@ -5,7 +5,7 @@
   reading.py --check    fails where one of the two is not what would be written
   reading.py --faults   texts with one fault each: each has to be told
 
-Both runs fail where a contract rests on a definition outside the rules and the ground, where a theorem rests on one that is in none of these and in no crate of laws (BESIDE has the exceptions),
+Both runs fail where a contract rests on a definition outside the rules and the ground, where a theorem rests on one that is in none of these and in no crate of laws,
 where a file has no place in the order, and where the contracts rest on more than MOST lines. Lines are those of a declaration, without its comment.
 """
 import os
@@ -13,7 +13,7 @@ import re
 import sys
 
 ROOT = os.path.join(os.path.dirname(os.path.abspath(__file__)), '..')
-MOST = 1100
+MOST = 1150
 # the public contracts: a crate and its functions, or all that it exports
 CONTRACTS = [('boundary', None), ('iommufd', ['fresh', 'call', 'bind', 'attach', 'detach', 'reach'])]
 # README's table whose theorems are followed
@@ -21,8 +21,6 @@ FIRST = '| asked | theorem | file |'
 # where the definitions may stand, by the headings of crates.txt: those of contracts; the words of theorems also among the laws
 FLOORS = ('The ground', 'The rules')
 LAWS = 'Laws'
-# and one definition of the code's own crates that a theorem cites
-BESIDE = {('landing', 'Landed', 'CandidateIn')}
 
 # the order to read in: document 01's. The ground is looked up where a rule cites it
 ORDER = [
@@ -30,13 +28,13 @@ ORDER = [
     ('The table', 'Table', ['rules_table/src/lib.rt', 'rules_table/specs/Records.antt', 'rules_table/specs/Spaces.antt', 'rules_table/specs/Charge.antt']),
     ('A bad table', '"A table is bad, and every call on it answers 117"', ['rules_table/specs/Fits.antt', 'rules_table/specs/Good.antt', 'rules_calls/specs/Gate.antt']),
     ('What a call changes and gives back', '"A refusal writes nothing"', ['rules_calls/specs/Edits.antt', 'rules_calls/specs/Answers.antt']),
-    ('MAP, COPY, UNMAP', 'Rules of the commands', ['rules_calls/specs/Landing.antt', 'rules_calls/specs/Made.antt', 'rules_calls/specs/Map.antt', 'rules_calls/specs/Sourced.antt', 'rules_calls/specs/Copy.antt', 'rules_calls/specs/Unmap.antt', 'rules_calls/specs/MappingCalls.antt']),
-    ('ALLOW_IOVAS, IOVA_RANGES, IOAS_ALLOC, DESTROY', 'Rules of the commands', ['rules_calls/specs/Allow.antt', 'rules_calls/specs/Ranges.antt', 'rules_calls/specs/Objects.antt', 'rules_calls/specs/SpaceCalls.antt']),
-    ('Bind, attach, detach, reach', 'Host calls', ['rules_calls/specs/Bind.antt', 'rules_calls/specs/Attach.antt', 'rules_calls/specs/Reach.antt', 'rules_calls/specs/HostCalls.antt', 'rules_calls/specs/Orders.antt']),
+    ('MAP, COPY, UNMAP', 'Rules of the commands', ['rules_calls/specs/Landing.antt', 'rules_calls/specs/Map.antt', 'rules_calls/specs/Copy.antt', 'rules_calls/specs/Unmap.antt']),
+    ('ALLOW_IOVAS, IOVA_RANGES, IOAS_ALLOC, DESTROY', 'Rules of the commands', ['rules_calls/specs/Allow.antt', 'rules_calls/specs/Ranges.antt', 'rules_calls/specs/Objects.antt']),
+    ('Bind, attach, detach, reach', 'Host calls', ['rules_calls/specs/Bind.antt', 'rules_calls/specs/Attach.antt', 'rules_calls/specs/Reach.antt', 'rules_calls/specs/Orders.antt']),
     ('The door', '"Opening a command, in order"', ['rules_calls/specs/Call.antt']),
     ('Sequences of calls', "Demand 3's ledger", ['rules_history/specs/Calls.antt', 'rules_history/specs/Ledger.antt', 'rules_history/specs/Told.antt']),
     ('Isolation', '"A call on one space changes no mapping, list or device of another"', ['rules_table/specs/Untouched.antt', 'rules_history/specs/Alike.antt']),
-    ("The caller's memory", '"A lent slice of mapping records"', ['rules_table/specs/Layout.antt', 'rules_lent/src/lib.rt', 'rules_lent/specs/Records.antt', 'rules_lent/specs/Lent.antt', 'rules_lent/specs/Entries.antt']),
+    ("The caller's memory", '"A lent slice of mapping records"', ['rules_table/specs/Layout.antt', 'rules_lent/src/lib.rt', 'rules_lent/specs/Records.antt', 'rules_lent/specs/Lent.antt', 'rules_lent/specs/Entries.antt', 'rules_lent/specs/Sequence.antt']),
 ]
 
 NAME = r'[^\s(){}.;,@"«»]+'
@@ -297,7 +295,7 @@ def reading(texts):
     floor = {c: f[0] for f in floors(texts['crates.txt']) for c in f[2]}
     wrong = [f'{k[0]}: {k[2]}' for k in under if floor[k[0]] not in FLOORS]
     beside = {k for k in stated if floor[k[0]] not in FLOORS}
-    wrong += [f'{k[0]}: {k[2]}' for k in beside if floor[k[0]] != LAWS and k not in BESIDE]
+    wrong += [f'{k[0]}: {k[2]}' for k in beside if floor[k[0]] != LAWS]
     if wrong:
         raise Fault('a contract or a theorem rests on a definition outside the rules and the ground: ' + ', '.join(sorted(set(wrong))))
     if size(tree, under) > MOST:

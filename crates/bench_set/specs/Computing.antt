@@ -32,8 +32,8 @@ use Rattle.rules_table.specs.Fits.{bindChecks, deviceFits, listFits}
 use Rattle.rules_calls.specs.Bind.{onlyFirst, trimmed, newDevice, bindEdit, bindCall, bindRule}
 use Rattle.rules_calls.specs.Attach.{blockedBy, misfits, attachedObject, attachChecks, attachEdit, attachCall}
 use Rattle.rules_calls.specs.Objects.{allocChecks, allocEdit, allocCall, allocAnswer, allocBytes}
-use Rattle.rules_calls.specs.Allow.{numberAt, column, areaList, withAllow, numberChecks, listChecks, allowChecks, allowEdit, allowAnswer}
-use Rattle.rules_calls.specs.Ranges.{freeOf, rangesChecks, rangesErrno, rangesBytes, rangesArea, rangesCall, rangesResult, rangesReply, rangesWritten}
+use Rattle.rules_calls.specs.Allow.{numberAt, column, areaList, withAllow, listChecks, allowAnswer, allowChecks, allowEdit, allowNumberChecks}
+use Rattle.rules_calls.specs.Ranges.{freeOf, rangesBytes, rangesArea, rangesCall, rangesResult, rangesReply, rangesWritten, rangesChecks, rangesErrno}
 use Rattle.rules_calls.specs.Unmap.{unmapCall, unmapAnswer, unmapBytes}
 use Rattle.rules_calls.specs.Copy.{copyCall, copyAnswer, copyBytes}
 use Rattle.rules_calls.specs.Map.{mapCall, mapAnswer, mapBytes}
@@ -54,7 +54,7 @@ mapping t bytes = mapAnswer t bytes
 
 -- IOAS_ALLOC and ALLOW_IOVAS
 unfoldable pub allowing : Table → List ℕ → List ℕ → Answer
-unfolding allocAnswer allocBytes allocCall allocEdit allocChecks allowAnswer allowEdit allowChecks numberChecks listChecks areaList column numberAt withAllow freeRecord seek field first outcome applied putObject replied result put
+unfolding allocAnswer allocBytes allocCall allocEdit allocChecks allowAnswer allowEdit allowChecks allowNumberChecks listChecks areaList column numberAt withAllow freeRecord seek field first outcome applied putObject replied result put
 allowing t bytes area = allowAnswer t bytes area
 
 -- IOVA_RANGES

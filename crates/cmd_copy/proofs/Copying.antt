@@ -21,17 +21,18 @@ use Rattle.scan.specs.declared.Survey.{Survey}
 use Rattle.rules_calls.specs.declared.Source.{Source}
 use Rattle.rules_calls.specs.declared.Source.the-variants.{Missing}
 use Rattle.scan.specs.Surveyed.{surveyOf}
-use Rattle.rules_calls.specs.Copy.{sourceOf, sourced, copyNumberChecks, sourceMapping, isMissing, sourceChecks, recordChecks, copyChecks, copyOf, copying, copyEdit}
+use Rattle.rules_calls.specs.Copy.{sourceOf, sourced, sourceMapping, isMissing, sourceChecks, recordChecks, copyOf, copying, copyNumberChecks, copyChecks, copyEdit}
 use Rattle.landing.specs.declared.Target.{Target}
 use Rattle.landing.specs.declared.Placing.{Placing}
 use Rattle.rules_calls.specs.Landing.{placeChecks}
 use Rattle.landing.specs.Placing.{Placed}
 use Rattle.rules_calls.specs.Map.{rightsOf, mapped, noRight, wrongLength, fixedPasses}
 use Rattle.cmd_map.proofs.Staging.{stage-refused, stage-passed, place-refuse}
+use Rattle.edits.specs.Numbers.{copyNumberChecksAt, copyChecksAt, copyEditAt}
 
 pub numbers-are : (os : List Object) (flags s from n x y r1 r2 r3 r4 r5 r6 r7 : ℕ) (un nr wr pa fi tg kn : Bool) → un ≡ unknown 3 flags → nr ≡ noRight flags → wr ≡ wrongLength n → pa ≡ passes y n
     → fi ≡ fixedPasses flags x n → tg ≡ spaceAt os s → kn ≡ spaceAt os from → r1 ≡ first (when (not kn) 2 ∷ []) 0 → r2 ≡ first (when (not tg) 2 ∷ []) r1 → r3 ≡ first (when fi 75 ∷ []) r2
-    → r4 ≡ first (when pa 75 ∷ []) r3 → r5 ≡ first (when wr 22 ∷ []) r4 → r6 ≡ first (when nr 22 ∷ []) r5 → r7 ≡ first (when un 95 ∷ []) r6 → r7 ≡ first (copyNumberChecks os flags s from n x y) 0
+    → r4 ≡ first (when pa 75 ∷ []) r3 → r5 ≡ first (when wr 22 ∷ []) r4 → r6 ≡ first (when nr 22 ∷ []) r5 → r7 ≡ first (when un 95 ∷ []) r6 → r7 ≡ first (copyNumberChecksAt os flags s from n x y) 0
 unfolding copyNumberChecks
 numbers-are os flags s from n x y r1 r2 r3 r4 r5 r6 r7 un nr wr pa fi tg kn eun enr ewr epa efi etg ekn e1 e2 e3 e4 e5 e6 e7 =
     checked un (unknown 3 flags) 95 r7 r6 0 _ e7 eun
@@ -65,7 +66,7 @@ copy-is m flags s n x rights e = rw e
 
 module _ (os : List Object) (ms : List Mapping) (t : Target) (source from : ℕ) where
   abbrev numbers : List (Check ℕ)
-  numbers = copyNumberChecks os (t .flags) (t .space) source (t .length) (t .address) from
+  numbers = copyNumberChecksAt os (t .flags) (t .space) source (t .length) (t .address) from
 
   abbrev named : Source
   named = sourced (sourceOf ms source from (t .length))
@@ -77,10 +78,10 @@ module _ (os : List Object) (ms : List Mapping) (t : Target) (source from : ℕ)
   records = recordChecks (found (freeMapping ms))
 
   abbrev all : List (Check ℕ)
-  all = copyChecks os ms (t .flags) (t .space) source (t .length) (t .address) from
+  all = copyChecksAt os ms (t .flags) (t .space) source (t .length) (t .address) from
 
   abbrev edit : Edit
-  edit = copyEdit os ms (t .flags) (t .space) source (t .length) (t .address) from
+  edit = copyEditAt os ms (t .flags) (t .space) source (t .length) (t .address) from
 
   numbers-refuse : Refusals numbers 0
   unfolding copyNumberChecks

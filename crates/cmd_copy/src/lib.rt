@@ -9,7 +9,8 @@ ghost use Rattle.rules_table.specs.declared.Object.{Object};
 ghost use Rattle.rules_table.specs.Records.{spaceAt};
 ghost use Rattle.table.specs.Checked.{recordOk};
 ghost use Rattle.digests.specs.Digest.{Seen};
-ghost use Rattle.rules_calls.specs.Copy.{isMissing, sourceMapping, copyNumberChecks, sourceChecks, recordChecks, copyOf, copyEdit};
+ghost use Rattle.rules_calls.specs.Copy.{isMissing, sourceMapping, sourceChecks, recordChecks, copyOf};
+ghost use Rattle.edits.specs.Numbers.{copyNumberChecksAt, copyEditAt};
 use digests::Digest;
 use landing::Target;
 use rangelists::Found;
@@ -18,7 +19,7 @@ use rules_calls::Source;
 use rules_table::Mapping;
 
 fn copy_number_errno(target: bool, known: bool, t: Target, from: u64) -> u8
-    ensures { λ r. ⌜ ((os : List Object) (source : ℕ) → target ≡ spaceAt os (t .space) → known ≡ spaceAt os source → r ≡ first (copyNumberChecks os (t .flags) (t .space) source (t .length) (t .address) from) 0) ⌝ }
+    ensures { λ r. ⌜ ((os : List Object) (source : ℕ) → target ≡ spaceAt os (t .space) → known ≡ spaceAt os source → r ≡ first (copyNumberChecksAt os (t .flags) (t .space) source (t .length) (t .address) from) 0) ⌝ }
 {
     let flags = t.flags;
     let n = t.length;
@@ -112,7 +113,7 @@ fn copied(m: Mapping, t: Target, address: u64) -> Mapping
 // The digest is that of the objects for the target's space and the source's.
 pub fn decide_copy(d: Digest, ms: [Mapping; 128], t: Target, source: u32, from: u64) -> Edit
     requires { ⌜ ((os : List Object) × Each (λ m. recordOk os m ≡ true) ms) ⌝ }
-    ensures { λ e. ⌜ ((os : List Object) → Seen os (t .space) source d → e ≡ copyEdit os ms (t .flags) (t .space) source (t .length) (t .address) from) ⌝ }
+    ensures { λ e. ⌜ ((os : List Object) → Seen os (t .space) source d → e ≡ copyEditAt os ms (t .flags) (t .space) source (t .length) (t .address) from) ⌝ }
 {
     let to = d.first;
     let k = to.kind;

@@ -19,12 +19,13 @@ use Rattle.landing.specs.declared.Target.{Target}
 use Rattle.landing.specs.declared.Placing.{Placing}
 use Rattle.rules_calls.specs.Landing.{placeChecks}
 use Rattle.landing.specs.Placing.{Placed}
-use Rattle.rules_calls.specs.Map.{numberIn, mapped, mapNumberChecks, roomChecks, mapChecks, foundOf, founding, mapEdit}
+use Rattle.rules_calls.specs.Map.{numberIn, mapped, roomChecks, foundOf, founding, mapEdit, mapNumberChecks, mapChecks}
 use Rattle.cmd_map.proofs.Staging.{stage-refused, stage-passed, place-refuse}
+use Rattle.edits.specs.Numbers.{mapNumberChecksAt, mapChecksAt, mapEditAt}
 
 module _ (limit : ℕ) (os : List Object) (ms : List Mapping) (t : Target) (z memory : ℕ) where
   abbrev numbers : List (Check ℕ)
-  numbers = mapNumberChecks os (t .flags) (t .space) z memory (t .length) (t .address)
+  numbers = mapNumberChecksAt os (t .flags) (t .space) z memory (t .length) (t .address)
 
   abbrev places : List (Check ℕ)
   places = placeChecks os ms (t .space) (bit 0 (t .flags)) (t .length) (t .address)
@@ -33,10 +34,10 @@ module _ (limit : ℕ) (os : List Object) (ms : List Mapping) (t : Target) (z me
   room = roomChecks (found (freeMapping ms)) limit (charge ms) (pagesTouched memory (t .length))
 
   abbrev all : List (Check ℕ)
-  all = mapChecks limit os ms (t .flags) (t .space) z memory (t .length) (t .address)
+  all = mapChecksAt limit os ms (t .flags) (t .space) z memory (t .length) (t .address)
 
   abbrev edit : Edit
-  edit = mapEdit limit os ms (t .flags) (t .space) z memory (t .length) (t .address)
+  edit = mapEditAt limit os ms (t .flags) (t .space) z memory (t .length) (t .address)
 
   numbers-refuse : Refusals numbers 0
   unfolding mapNumberChecks

@@ -26,7 +26,8 @@ use Rattle.rules_calls.specs.Edits.{refuse, accept}
 use Rattle.edits.specs.Settled.{checked, checked-last}
 use Rattle.scan.specs.declared.Survey.{Survey}
 use Rattle.scan.specs.Surveyed.{surveyOf}
-use Rattle.rules_calls.specs.Map.{rightsOf, numberIn, mapped, noRight, wrongLength, fixedPasses, mapNumberChecks, roomChecks, foundOf}
+use Rattle.rules_calls.specs.Map.{rightsOf, numberIn, mapped, noRight, wrongLength, fixedPasses, roomChecks, foundOf, mapNumberChecks}
+use Rattle.edits.specs.Numbers.{mapNumberChecksAt}
 
 pub rights-are : (flags p q : ℕ) (w r : Bool) → w ≡ bit 1 flags → p ≡ onlyIf w 1 → r ≡ bit 2 flags → q ≡ onlyIf r 2 → p + q ≡ rightsOf flags
 unfolding rightsOf
@@ -72,7 +73,7 @@ put-at f m r i o e eo k = rw e (k ∙ ap (λ (x : Object). accept (m .address) (
 
 pub numbers-are : (os : List Object) (flags s z memory n x r1 r2 r3 r4 r5 r6 : ℕ) (un u nr wr pa fi kn : Bool) → un ≡ unknown 3 flags → u ≡ (un || not (eqb z 0)) → nr ≡ noRight flags → wr ≡ wrongLength n
     → pa ≡ passes memory n → fi ≡ fixedPasses flags x n → kn ≡ spaceAt os s → r1 ≡ first (when (not kn) 2 ∷ []) 0 → r2 ≡ first (when fi 75 ∷ []) r1 → r3 ≡ first (when pa 75 ∷ []) r2
-    → r4 ≡ first (when wr 22 ∷ []) r3 → r5 ≡ first (when nr 22 ∷ []) r4 → r6 ≡ first (when u 95 ∷ []) r5 → r6 ≡ first (mapNumberChecks os flags s z memory n x) 0
+    → r4 ≡ first (when wr 22 ∷ []) r3 → r5 ≡ first (when nr 22 ∷ []) r4 → r6 ≡ first (when u 95 ∷ []) r5 → r6 ≡ first (mapNumberChecksAt os flags s z memory n x) 0
 unfolding mapNumberChecks
 numbers-are os flags s z memory n x r1 r2 r3 r4 r5 r6 un u nr wr pa fi kn eun eu eno ewr epa efi ekn e1 e2 e3 e4 e5 e6 =
     checked u (unknown 3 flags || not (eqb z 0)) 95 r6 r5 0 _ e6 (eu ∙ ap (λ (b : Bool). b || not (eqb z 0)) eun)

@@ -12,7 +12,8 @@ ghost use Rattle.rules_table.specs.Records.{spaceAt};
 ghost use Rattle.table.specs.Checked.{recordOk};
 ghost use Rattle.digests.specs.Digest.{Seen};
 ghost use Rattle.landing.specs.Placing.{Placed};
-ghost use Rattle.rules_calls.specs.Map.{rightsOf, numberIn, mapped, noRight, wrongLength, fixedPasses, mapNumberChecks, roomChecks, foundOf, mapEdit};
+ghost use Rattle.rules_calls.specs.Map.{rightsOf, numberIn, mapped, noRight, wrongLength, fixedPasses, roomChecks, foundOf};
+ghost use Rattle.edits.specs.Numbers.{mapNumberChecksAt, mapEditAt};
 use digests::Digest;
 use landing::Placing;
 use landing::Target;
@@ -98,7 +99,7 @@ pub fn place_in(d: Digest, ms: [Mapping; 128], t: Target) -> Placing
 // ---- MAP
 
 fn map_number_errno(known: bool, t: Target, zero: u32, memory: u64) -> u8
-    ensures { λ r. ⌜ ((os : List Object) → known ≡ spaceAt os (t .space) → r ≡ first (mapNumberChecks os (t .flags) (t .space) zero memory (t .length) (t .address)) 0) ⌝ }
+    ensures { λ r. ⌜ ((os : List Object) → known ≡ spaceAt os (t .space) → r ≡ first (mapNumberChecksAt os (t .flags) (t .space) zero memory (t .length) (t .address)) 0) ⌝ }
 {
     let flags = t.flags;
     let n = t.length;
@@ -173,7 +174,7 @@ pub fn decide_map(
     memory: u64,
 ) -> Edit
     requires { ⌜ ((os : List Object) × Each (λ m. recordOk os m ≡ true) ms) ⌝ }
-    ensures { λ e. ⌜ ((os : List Object) (b : ℕ) → Seen os (t .space) b d → e ≡ mapEdit limit os ms (t .flags) (t .space) zero memory (t .length) (t .address)) ⌝ }
+    ensures { λ e. ⌜ ((os : List Object) (b : ℕ) → Seen os (t .space) b d → e ≡ mapEditAt limit os ms (t .flags) (t .space) zero memory (t .length) (t .address)) ⌝ }
 {
     let o = d.first;
     let k = o.kind;

@@ -23,7 +23,8 @@ use Rattle.rules_calls.specs.declared.Edit.{Edit}
 use Rattle.rules_calls.specs.Edits.{accept}
 use Rattle.edits.specs.Settled.{checked, checked-last}
 use Rattle.rules_calls.specs.Objects.{inUse, destroyChecks, removal}
-use Rattle.rules_calls.specs.Allow.{numberAt, column, areaList, withAllow, numberChecks, listChecks, allowChecks}
+use Rattle.rules_calls.specs.Allow.{numberAt, column, areaList, withAllow, listChecks, allowNumberChecks, allowChecks}
+use Rattle.edits.specs.Numbers.{allowNumberChecksAt, allowChecksAt}
 
 module _ (off n k : ℕ) (area : List ℕ) where
   pub number-none : n ≤ k → 0 ≡ numberAt off n k area
@@ -83,27 +84,27 @@ unfolding spaceAt objectAt
 known-alone o b h = h
 
 module _ (os : List Object) (s count z : ℕ) (area : List ℕ) where
-  numbers-refuse : Refusals (numberChecks os s count z (length area)) 0
-  unfolding numberChecks
+  numbers-refuse : Refusals (allowNumberChecksAt os s count z (length area)) 0
+  unfolding allowNumberChecks
   numbers-refuse = (λ y. omega (arith, y), (λ y. omega (arith, y), (λ y. omega (arith, y), (λ y. omega (arith, y), tt))))
 
-  pub by-numbers : (n : ℕ) → n ≡ first (numberChecks os s count z (length area)) 0 → (n ≡ 0 → ⊥) → n ≡ first (allowChecks os s count z area) 0
+  pub by-numbers : (n : ℕ) → n ≡ first (allowNumberChecksAt os s count z (length area)) 0 → (n ≡ 0 → ⊥) → n ≡ first (allowChecksAt os s count z area) 0
   unfolding allowChecks
   by-numbers n e h =
-      first-stays (numberChecks os s count z (length area)) 0 n (first (listChecks os s (areaList count area)) 0) e h
-      ∙ sym (first-append (numberChecks os s count z (length area)) (listChecks os s (areaList count area)) 0)
+      first-stays (allowNumberChecksAt os s count z (length area)) 0 n (first (listChecks os s (areaList count area)) 0) e h
+      ∙ sym (first-append (allowNumberChecksAt os s count z (length area)) (listChecks os s (areaList count area)) 0)
 
-  pub by-list : (n : ℕ) (l : Allowed) → 0 ≡ first (numberChecks os s count z (length area)) 0 → l ≡ areaList count area → n ≡ first (listChecks os s l) 0 → n ≡ first (allowChecks os s count z area) 0
+  pub by-list : (n : ℕ) (l : Allowed) → 0 ≡ first (allowNumberChecksAt os s count z (length area)) 0 → l ≡ areaList count area → n ≡ first (listChecks os s l) 0 → n ≡ first (allowChecksAt os s count z area) 0
   unfolding allowChecks
   by-list n l e k f =
       f ∙ ap (λ (x : Allowed). first (listChecks os s x) 0) k
-      ∙ first-goes (numberChecks os s count z (length area)) 0 (first (listChecks os s (areaList count area)) 0) numbers-refuse e
-      ∙ sym (first-append (numberChecks os s count z (length area)) (listChecks os s (areaList count area)) 0)
+      ∙ first-goes (allowNumberChecksAt os s count z (length area)) 0 (first (listChecks os s (areaList count area)) 0) numbers-refuse e
+      ∙ sym (first-append (allowNumberChecksAt os s count z (length area)) (listChecks os s (areaList count area)) 0)
 
   -- the area holds the list
-  pub area-holds : 0 ≡ first (numberChecks os s count z (length area)) 0 → 16 * count ≤ length area
-  unfolding numberChecks
-  area-holds e = ltb-false (length area) (16 * count) (passed (numberChecks os s count z (length area)) 0 (when false 0) numbers-refuse (sym e) 3 (omega arith))
+  pub area-holds : 0 ≡ first (allowNumberChecksAt os s count z (length area)) 0 → 16 * count ≤ length area
+  unfolding allowNumberChecks
+  area-holds e = ltb-false (length area) (16 * count) (passed (allowNumberChecksAt os s count z (length area)) 0 (when false 0) numbers-refuse (sym e) 3 (omega arith))
 
 pub allow-edit : (os : List Object) (s count : ℕ) (area : List ℕ) (r : Edit) (o n : Object) (l : Allowed) (i : ℕ) → o ≡ objectAt os s → i ≡ s - 1 → l ≡ areaList count area → n ≡ withAllow o l → r ≡ accept 0 (Put i) n
     → r ≡ accept 0 (Put (s - 1)) (withAllow (objectAt os s) (areaList count area))

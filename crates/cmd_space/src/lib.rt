@@ -15,8 +15,8 @@ ghost use Rattle.rules_table.specs.Charge.{freeRecord};
 ghost use Rattle.rules_table.specs.Good.{listsTouch};
 ghost use Rattle.facts.specs.Gathered.{Gathered};
 ghost use Rattle.rules_calls.specs.Objects.{allocEdit, removal, destroyEdit};
-ghost use Rattle.rules_calls.specs.Allow.{numberAt, column, areaList, withAllow, numberChecks, listChecks, allowEdit};
-ghost use Rattle.rules_calls.specs.Ranges.{rangesChecks};
+ghost use Rattle.rules_calls.specs.Allow.{numberAt, column, areaList, withAllow, listChecks};
+ghost use Rattle.edits.specs.Numbers.{allowNumberChecksAt, allowEditAt, rangesChecksAt};
 use blocks::Blocks;
 use rangelists::Allowed;
 use rangelists::Found;
@@ -149,7 +149,7 @@ fn with_allow(o: Object, l: Allowed) -> Object
 
 // known says whether the id is that of a space.
 fn number_errno(known: bool, count: u32, zero: u32, room: usize) -> u8
-    ensures { λ r. ⌜ ((os : List Object) (space : ℕ) → known ≡ spaceAt os space → r ≡ first (numberChecks os space count zero room) 0) ⌝ }
+    ensures { λ r. ⌜ ((os : List Object) (space : ℕ) → known ≡ spaceAt os space → r ≡ first (allowNumberChecksAt os space count zero room) 0) ⌝ }
 {
     checks::refuse_if(
         zero != 0,
@@ -179,7 +179,7 @@ fn list_errno(b: Blocks, space: u32, l: Allowed) -> u8
 
 // o is the object of the id, b the reserved ranges of all spaces.
 pub fn decide_allow(o: Object, b: Blocks, space: u32, count: u32, zero: u32, area: &[u8]) -> Edit
-    ensures { λ e. ⌜ ((os : List Object) → o ≡ objectAt os space → Gathered os b → e ≡ allowEdit os space count zero (now (area .entry))) ⌝ }
+    ensures { λ e. ⌜ ((os : List Object) → o ≡ objectAt os space → Gathered os b → e ≡ allowEditAt os space count zero (now (area .entry))) ⌝ }
 {
     let k = o.kind;
     let first = number_errno(table::is_space(k), count, zero, area.len());
@@ -196,7 +196,7 @@ pub fn decide_allow(o: Object, b: Blocks, space: u32, count: u32, zero: u32, are
 
 // The checks of IOVA_RANGES; 0 where it replies.
 pub fn ranges_errno(known: bool, count: u32, zero: u32, room: usize) -> u8
-    ensures { λ r. ⌜ ((os : List Object) (space : ℕ) → known ≡ spaceAt os space → r ≡ first (rangesChecks os space count zero room) 0) ⌝ }
+    ensures { λ r. ⌜ ((os : List Object) (space : ℕ) → known ≡ spaceAt os space → r ≡ first (rangesChecksAt os space count zero room) 0) ⌝ }
 {
     checks::refuse_if(
         zero != 0,

@@ -14,7 +14,7 @@ use Rattle.rules_calls.specs.Edits.{settle, placed}
 use Rattle.rules_calls.specs.Answers.{replied}
 use Rattle.edits.specs.Kept.{placed-value}
 use Rattle.rules_calls.specs.Objects.{allocChecks, allocEdit}
-use Rattle.rules_calls.specs.Allow.{allowEdit}
+use Rattle.edits.specs.Numbers.{allowEditAt}
 
 -- ---- IOAS_ALLOC
 
@@ -35,5 +35,5 @@ alloc-fields os flags f e bytes bytes′ l s k r =
 
 -- ---- ALLOW_IOVAS
 
-pub allow-fields : (os : List Object) (area : List ℕ) (s count z p q r : ℕ) → s ≡ p → count ≡ q → z ≡ r → {e : Edit} → e ≡ allowEdit os s count z area → e ≡ allowEdit os p q r area
+pub allow-fields : (os : List Object) (area : List ℕ) (s count z p q r : ℕ) → s ≡ p → count ≡ q → z ≡ r → {e : Edit} → e ≡ allowEditAt os s count z area → e ≡ allowEditAt os p q r area
 allow-fields os area s count z p q r es ec ez k = k ∙ rw (es, ec, ez)

@@ -25,9 +25,10 @@ use Rattle.rules_table.specs.Spaces.{alignment}
 use Rattle.rules_calls.specs.declared.Edit.{Edit}
 use Rattle.rules_calls.specs.Edits.{refuse}
 use Rattle.facts.specs.Gathered.{Gathered}
-use Rattle.rules_calls.specs.Ranges.{freeOf, rangesChecks, rangesErrno, repliesTo, rangesBytes, rangesArea, errnoOr, rangesCall, rangesReply, rangesWritten}
+use Rattle.rules_calls.specs.Ranges.{freeOf, repliesTo, rangesBytes, rangesArea, errnoOr, rangesCall, rangesReply, rangesWritten, rangesChecks, rangesErrno}
 use Rattle.rules_calls.specs.Gate.{gateErrno}
 use Rattle.cmd_space_bytes.specs.Replied.{RangesReply, RangesDone}
+use Rattle.edits.specs.Numbers.{rangesChecksAt, rangesErrnoAt}
 
 -- ---- the reply
 
@@ -57,29 +58,29 @@ unfolding first
 single-check true = refl
 single-check false = refl
 
-checks-refuse : (os : List Object) (s count z room : ℕ) → Refusals (rangesChecks os s count z room) 0
+checks-refuse : (os : List Object) (s count z room : ℕ) → Refusals (rangesChecksAt os s count z room) 0
 unfolding rangesChecks
 checks-refuse os s count z room = (λ y. omega (arith, y), (λ y. omega (arith, y), (λ y. omega (arith, y), tt)))
 
 -- the area has room for count ranges
-pub ranges-room : (os : List Object) (s count z room : ℕ) → 0 ≡ first (rangesChecks os s count z room) 0 → 16 * count ≤ room
+pub ranges-room : (os : List Object) (s count z room : ℕ) → 0 ≡ first (rangesChecksAt os s count z room) 0 → 16 * count ≤ room
 unfolding rangesChecks
-ranges-room os s count z room e = ltb-false room (16 * count) (passed (rangesChecks os s count z room) 0 (when false 0) (checks-refuse os s count z room) (sym e) 2 (omega arith))
+ranges-room os s count z room e = ltb-false room (16 * count) (passed (rangesChecksAt os s count z room) 0 (when false 0) (checks-refuse os s count z room) (sym e) 2 (omega arith))
 
 module _ (os : List Object) (cmd area : List ℕ) where
   -- no check before the reply gives 90
-  not-90 : first (rangesChecks os (field 4 cmd 4) (field 4 cmd 8) (field 4 cmd 12) (length area)) 0 ≡ 90 → ⊥
+  not-90 : first (rangesChecksAt os (field 4 cmd 4) (field 4 cmd 8) (field 4 cmd 12) (length area)) 0 ≡ 90 → ⊥
   unfolding rangesChecks
-  not-90 = first-each (λ (n : ℕ). n ≡ 90 → ⊥) (rangesChecks os (field 4 cmd 4) (field 4 cmd 8) (field 4 cmd 12) (length area)) 0
+  not-90 = first-each (λ (n : ℕ). n ≡ 90 → ⊥) (rangesChecksAt os (field 4 cmd 4) (field 4 cmd 8) (field 4 cmd 12) (length area)) 0
       (λ y. omega (arith, y), (λ y. omega (arith, y), (λ y. omega (arith, y), tt))) (λ y. omega (arith, y))
 
-  pub ranges-refused : (n count z : ℕ) → count ≡ field 4 cmd 8 → z ≡ field 4 cmd 12 → n ≡ first (rangesChecks os (field 4 cmd 4) count z (length area)) 0 → (n ≡ 0 → ⊥) → RangesDone os n cmd cmd area area
+  pub ranges-refused : (n count z : ℕ) → count ≡ field 4 cmd 8 → z ≡ field 4 cmd 12 → n ≡ first (rangesChecksAt os (field 4 cmd 4) count z (length area)) 0 → (n ≡ 0 → ⊥) → RangesDone os n cmd cmd area area
   unfolding rangesErrno
   ranges-refused n count z ec ez e h =
-      let f : n ≡ first (rangesChecks os (field 4 cmd 4) (field 4 cmd 8) (field 4 cmd 12) (length area)) 0 = e ∙ rw (ec, ez) in
+      let f : n ≡ first (rangesChecksAt os (field 4 cmd 4) (field 4 cmd 8) (field 4 cmd 12) (length area)) 0 = e ∙ rw (ec, ez) in
       let silent : repliesTo n ≡ false = rw (ne-eqb n 0 h) (ne-eqb n 90 (λ y. not-90 (sym f ∙ y))) in
       record {
-        errno = first-stays (rangesChecks os (field 4 cmd 4) (field 4 cmd 8) (field 4 cmd 12) (length area)) 0 n _ f h;
+        errno = first-stays (rangesChecksAt os (field 4 cmd 4) (field 4 cmd 8) (field 4 cmd 12) (length area)) 0 n _ f h;
         bytes = sym (rw silent);
         ranges = sym (rw silent);
       }
@@ -88,15 +89,15 @@ module _ (os : List Object) (cmd area : List ℕ) where
   replies true = refl
   replies false = refl
 
-  pub ranges-done : (n m full s count z : ℕ) (cmd′ area′ : List ℕ) → s ≡ field 4 cmd 4 → count ≡ field 4 cmd 8 → z ≡ field 4 cmd 12 → m ≡ first (rangesChecks os (field 4 cmd 4) count z (length area)) 0 → m ≡ 0
+  pub ranges-done : (n m full s count z : ℕ) (cmd′ area′ : List ℕ) → s ≡ field 4 cmd 4 → count ≡ field 4 cmd 8 → z ≡ field 4 cmd 12 → m ≡ first (rangesChecksAt os (field 4 cmd 4) count z (length area)) 0 → m ≡ 0
       → RangesReply os s count full cmd cmd′ area area′ → n ≡ first (when (ltb count full) 90 ∷ []) 0 → RangesDone os n cmd cmd′ area area′
   unfolding rangesErrno
   ranges-done n m full s count z cmd′ area′ es ec ez em zero-m r e =
-      let f : 0 ≡ first (rangesChecks os (field 4 cmd 4) (field 4 cmd 8) (field 4 cmd 12) (length area)) 0 = sym zero-m ∙ em ∙ rw (ec, ez) in
+      let f : 0 ≡ first (rangesChecksAt os (field 4 cmd 4) (field 4 cmd 8) (field 4 cmd 12) (length area)) 0 = sym zero-m ∙ em ∙ rw (ec, ez) in
       let d : n ≡ cond (ltb (field 4 cmd 8) (length (freeOf os (field 4 cmd 4)))) 90 0 = e ∙ single-check (ltb count full) ∙ rw (ec, r .full, es) in
       let writes : repliesTo n ≡ true = rw d (replies (ltb (field 4 cmd 8) (length (freeOf os (field 4 cmd 4))))) in
       record {
-        errno = d ∙ first-goes (rangesChecks os (field 4 cmd 4) (field 4 cmd 8) (field 4 cmd 12) (length area)) 0 _ (checks-refuse os (field 4 cmd 4) (field 4 cmd 8) (field 4 cmd 12) (length area)) f;
+        errno = d ∙ first-goes (rangesChecksAt os (field 4 cmd 4) (field 4 cmd 8) (field 4 cmd 12) (length area)) 0 _ (checks-refuse os (field 4 cmd 4) (field 4 cmd 8) (field 4 cmd 12) (length area)) f;
         bytes = r .bytes ∙ rw (es, writes);
         ranges = r .ranges ∙ rw (es, ec, writes);
       }
@@ -133,7 +134,7 @@ pub ranges-gated : (t : Table) (cmd area : List ℕ) (n : ℕ) → n ≡ gateErr
     → (refuse n ≡ refuse (rangesCall t cmd area)) × (cmd ≡ rangesReply t cmd area) × (area ≡ rangesWritten t cmd area)
 unfolding rangesReply rangesWritten rangesCall
 ranges-gated t cmd area n e h =
-    let same : n ≡ rangesCall t cmd area = errno-refused n (gateErrno t 0x3B84 cmd) (rangesErrno (t .objects) (field 4 cmd 4) (field 4 cmd 8) (field 4 cmd 12) area) e h in
+    let same : n ≡ rangesCall t cmd area = errno-refused n (gateErrno t 0x3B84 cmd) (rangesErrnoAt (t .objects) (field 4 cmd 4) (field 4 cmd 8) (field 4 cmd 12) area) e h in
     let silent : repliesTo (rangesCall t cmd area) ≡ false = rw (← same) (rw (ne-eqb n 0 h) (ne-eqb n 90 (λ y. gate-90 t 0x3B84 cmd (sym e ∙ y)))) in
     (ap refuse same, sym (rw silent), sym (rw silent))
 
@@ -141,5 +142,5 @@ pub ranges-answered : (t : Table) (cmd area cmd′ area′ : List ℕ) (n : ℕ)
     → (refuse n ≡ refuse (rangesCall t cmd area)) × (cmd′ ≡ rangesReply t cmd area) × (area′ ≡ rangesWritten t cmd area)
 unfolding rangesReply rangesWritten rangesCall
 ranges-answered t cmd area cmd′ area′ n h d =
-    let same : n ≡ rangesCall t cmd area = d .errno ∙ errno-passed 0 (gateErrno t 0x3B84 cmd) (rangesErrno (t .objects) (field 4 cmd 4) (field 4 cmd 8) (field 4 cmd 12) area) (sym h) refl in
+    let same : n ≡ rangesCall t cmd area = d .errno ∙ errno-passed 0 (gateErrno t 0x3B84 cmd) (rangesErrnoAt (t .objects) (field 4 cmd 4) (field 4 cmd 8) (field 4 cmd 12) area) (sym h) refl in
     (ap refuse same, d .bytes ∙ rw same, d .ranges ∙ rw same)

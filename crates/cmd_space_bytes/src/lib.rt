@@ -13,8 +13,8 @@ ghost use Rattle.rules_calls.specs.Answers.{replied};
 ghost use Rattle.facts.specs.Gathered.{Gathered};
 ghost use Rattle.digests.specs.Digest.{Seen};
 ghost use Rattle.rules_calls.specs.Objects.{allocEdit};
-ghost use Rattle.rules_calls.specs.Allow.{allowEdit};
 ghost use Rattle.cmd_space_bytes.specs.Replied.{RangesReply, RangesDone};
+ghost use Rattle.edits.specs.Numbers.{allowEditAt};
 use blocks::Blocks;
 use digests::Digest;
 use rangelists::Found;
@@ -44,7 +44,7 @@ pub fn alloc(free: Found, cmd: &mut [u8]) -> Edit
 // ALLOW_IOVAS: the allow list of a space, from the range area. o is the object of the id, b the reserved ranges of all spaces.
 pub fn allow(o: Object, b: Blocks, cmd: &[u8], area: &[u8]) -> Edit
     requires { ⌜ 24 ≤ length (now cmd) ⌝ }
-    ensures { λ e. ⌜ ((os : List Object) → o ≡ objectAt os (field 4 (now (cmd .entry)) 4) → Gathered os b → e ≡ allowEdit os (field 4 (now (cmd .entry)) 4) (field 4 (now (cmd .entry)) 8) (field 4 (now (cmd .entry)) 12) (now (area .entry))) ⌝ }
+    ensures { λ e. ⌜ ((os : List Object) → o ≡ objectAt os (field 4 (now (cmd .entry)) 4) → Gathered os b → e ≡ allowEditAt os (field 4 (now (cmd .entry)) 4) (field 4 (now (cmd .entry)) 8) (field 4 (now (cmd .entry)) 12) (now (area .entry))) ⌝ }
 {
     let space = wire::read32(cmd, 4);
     let count = wire::read32(cmd, 8);

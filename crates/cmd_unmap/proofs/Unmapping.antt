@@ -17,7 +17,8 @@ use Rattle.rules_calls.specs.Edits.{refuse, accept}
 use Rattle.edits.specs.Settled.{checked, checked-last, settle-refused, settle-taken}
 use Rattle.scan.specs.declared.Removal.{Removal}
 use Rattle.scan.specs.Removed.{removalOf}
-use Rattle.rules_calls.specs.Unmap.{asksAll, rangeAsked, unmapNumberChecks, removalBy, removalChecks, unmapChecks, unmapEdit}
+use Rattle.rules_calls.specs.Unmap.{asksAll, rangeAsked, removalBy, removalChecks, unmapEdit, unmapNumberChecks, unmapChecks}
+use Rattle.edits.specs.Numbers.{unmapNumberChecksAt, unmapChecksAt, unmapEditAt}
 
 -- every address
 pub all-asked : (a n : ℕ) (b : Bool) → b ≡ asksAll a n → b ≡ true → _≡_ {A = Range} record { start = 0; last = U64MAX } (rangeAsked a n)
@@ -29,7 +30,7 @@ unfolding rangeAsked
 some-asked a n b r eb e er = er ∙ rw (sym eb ∙ e)
 
 pub numbers-are : (os : List Object) (s a n r1 r2 r3 : ℕ) (pa kn : Bool) → pa ≡ passes a n → kn ≡ spaceAt os s → r1 ≡ first (when (not kn) 2 ∷ []) 0 → r2 ≡ first (when pa 75 ∷ []) r1
-    → r3 ≡ first (when (eqb n 0) 22 ∷ []) r2 → r3 ≡ first (unmapNumberChecks os s a n) 0
+    → r3 ≡ first (when (eqb n 0) 22 ∷ []) r2 → r3 ≡ first (unmapNumberChecksAt os s a n) 0
 unfolding unmapNumberChecks
 numbers-are os s a n r1 r2 r3 pa kn epa ekn e1 e2 e3 =
     checked (eqb n 0) (eqb n 0) 22 r3 r2 0 _ e3 refl
@@ -43,31 +44,31 @@ removal-is all cut sm nn r1 r2 en e1 e2 = checked cut cut 2 r2 r1 0 _ e2 refl (c
 -- ---- UNMAP
 
 module _ (os : List Object) (ms : List Mapping) (s a n : ℕ) where
-  numbers-refuse : Refusals (unmapNumberChecks os s a n) 0
+  numbers-refuse : Refusals (unmapNumberChecksAt os s a n) 0
   unfolding unmapNumberChecks
   numbers-refuse = (λ y. omega (arith, y), (λ y. omega (arith, y), (λ y. omega (arith, y), tt)))
 
   -- the numbers refuse
-  pub by-numbers : (w : ℕ) (r : Edit) → w ≡ first (unmapNumberChecks os s a n) 0 → (w ≡ 0 → ⊥) → r ≡ refuse w → r ≡ unmapEdit os ms s a n
+  pub by-numbers : (w : ℕ) (r : Edit) → w ≡ first (unmapNumberChecksAt os s a n) 0 → (w ≡ 0 → ⊥) → r ≡ refuse w → r ≡ unmapEditAt os ms s a n
   unfolding unmapEdit unmapChecks
   by-numbers w r e h k =
-      settle-refused w (first (unmapChecks os ms s a n) 0) r _
-      (first-stays (unmapNumberChecks os s a n) 0 w (first (removalChecks ms s a n) 0) e h ∙ sym (first-append (unmapNumberChecks os s a n) (removalChecks ms s a n) 0)) h k
+      settle-refused w (first (unmapChecksAt os ms s a n) 0) r _
+      (first-stays (unmapNumberChecksAt os s a n) 0 w (first (removalChecks ms s a n) 0) e h ∙ sym (first-append (unmapNumberChecksAt os s a n) (removalChecks ms s a n) 0)) h k
 
-  module _ (w : ℕ) (ew : w ≡ first (unmapNumberChecks os s a n) 0) (zw : w ≡ 0) (q : Range) (eq : q ≡ rangeAsked a n) (v : Removal) (ev : v ≡ removalOf s q ms) (all : Bool) (ea : all ≡ asksAll a n) (k : ℕ)
+  module _ (w : ℕ) (ew : w ≡ first (unmapNumberChecksAt os s a n) 0) (zw : w ≡ 0) (q : Range) (eq : q ≡ rangeAsked a n) (v : Removal) (ev : v ≡ removalOf s q ms) (all : Bool) (ea : all ≡ asksAll a n) (k : ℕ)
       (ek : k ≡ first (removalBy all (v .cut) (v .some)) 0) where
-    removal-are : k ≡ first (unmapChecks os ms s a n) 0
+    removal-are : k ≡ first (unmapChecksAt os ms s a n) 0
     unfolding unmapChecks removalChecks removalOf
     removal-are =
         ek ∙ rw (ev, eq, ea)
-        (first-goes (unmapNumberChecks os s a n) 0 (first (removalChecks ms s a n) 0) numbers-refuse (sym zw ∙ ew) ∙ sym (first-append (unmapNumberChecks os s a n) (removalChecks ms s a n) 0))
+        (first-goes (unmapNumberChecksAt os s a n) 0 (first (removalChecks ms s a n) 0) numbers-refuse (sym zw ∙ ew) ∙ sym (first-append (unmapNumberChecksAt os s a n) (removalChecks ms s a n) 0))
 
     -- a mapping is cut, or none goes
-    pub by-removal : (r : Edit) → (k ≡ 0 → ⊥) → r ≡ refuse k → r ≡ unmapEdit os ms s a n
+    pub by-removal : (r : Edit) → (k ≡ 0 → ⊥) → r ≡ refuse k → r ≡ unmapEditAt os ms s a n
     unfolding unmapEdit
-    by-removal r h e = settle-refused k (first (unmapChecks os ms s a n) 0) r _ removal-are h e
+    by-removal r h e = settle-refused k (first (unmapChecksAt os ms s a n) 0) r _ removal-are h e
 
     -- the mappings inside go
-    pub by-clearing : (r : Edit) (o : Object) → k ≡ 0 → o ≡ freeObject → r ≡ accept (v .bytes) (Clear s q) o → r ≡ unmapEdit os ms s a n
+    pub by-clearing : (r : Edit) (o : Object) → k ≡ 0 → o ≡ freeObject → r ≡ accept (v .bytes) (Clear s q) o → r ≡ unmapEditAt os ms s a n
     unfolding unmapEdit removalOf
-    by-clearing r o zk eo er = settle-taken k (first (unmapChecks os ms s a n) 0) r _ removal-are zk (er ∙ rw (eo, ev, eq))
+    by-clearing r o zk eo er = settle-taken k (first (unmapChecksAt os ms s a n) 0) r _ removal-are zk (er ∙ rw (eo, ev, eq))

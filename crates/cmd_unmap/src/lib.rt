@@ -8,7 +8,8 @@ ghost use Rattle.lists.specs.Checks.{first};
 ghost use Rattle.rules_table.specs.declared.Object.{Object};
 ghost use Rattle.rules_table.specs.Records.{spaceAt};
 ghost use Rattle.table.specs.Checked.{recordOk};
-ghost use Rattle.rules_calls.specs.Unmap.{asksAll, rangeAsked, unmapNumberChecks, removalBy, unmapEdit};
+ghost use Rattle.rules_calls.specs.Unmap.{asksAll, rangeAsked, removalBy};
+ghost use Rattle.edits.specs.Numbers.{unmapNumberChecksAt, unmapEditAt};
 use ranges::Range;
 use rules_calls::Change;
 use rules_calls::Edit;
@@ -34,7 +35,7 @@ fn range_asked(a: u64, n: u64) -> Range
 }
 
 fn unmap_number_errno(known: bool, a: u64, n: u64) -> u8
-    ensures { λ r. ⌜ ((os : List Object) (s : ℕ) → known ≡ spaceAt os s → r ≡ first (unmapNumberChecks os s a n) 0) ⌝ }
+    ensures { λ r. ⌜ ((os : List Object) (s : ℕ) → known ≡ spaceAt os s → r ≡ first (unmapNumberChecksAt os s a n) 0) ⌝ }
 {
     let past = ranges::passes_max(a, n);
     checks::refuse_if(
@@ -54,7 +55,7 @@ fn removal_errno(all: bool, cut: bool, some: bool) -> u8
 
 pub fn decide_unmap(known: bool, ms: [Mapping; 128], s: u32, a: u64, n: u64) -> Edit
     requires { ⌜ ((os : List Object) × Each (λ m. recordOk os m ≡ true) ms) ⌝ }
-    ensures { λ e. ⌜ ((os : List Object) → known ≡ spaceAt os s → e ≡ unmapEdit os ms s a n) ⌝ }
+    ensures { λ e. ⌜ ((os : List Object) → known ≡ spaceAt os s → e ≡ unmapEditAt os ms s a n) ⌝ }
 {
     let wrong = unmap_number_errno(known, a, n);
     if wrong != 0 {

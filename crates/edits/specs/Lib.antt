@@ -3,3 +3,4 @@ pub mod Kept
 pub mod Untouched
 pub mod Mapped
 pub mod Settled
+pub mod Numbers

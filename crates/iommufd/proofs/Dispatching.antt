@@ -35,7 +35,6 @@ use Rattle.digests.specs.declared.Digest.{Digest}
 use Rattle.digests.specs.Digest.{Seen, DigestOf}
 use Rattle.rules_calls.specs.Gate.{tableWith, gateErrno}
 use Rattle.rules_calls.specs.Objects.{allocEdit, destroyEdit, allocCall, allocBytes}
-use Rattle.rules_calls.specs.Allow.{allowEdit}
 use Rattle.cmd_space_bytes.specs.Replied.{RangesDone}
 use Rattle.cmd_space_bytes.proofs.Replying.{ranges-gated, ranges-answered}
 use Rattle.rules_calls.specs.Unmap.{unmapDecided, unmapCall, unmapBytes}
@@ -43,6 +42,7 @@ use Rattle.rules_calls.specs.Copy.{copyDecided, copyCall, copyBytes}
 use Rattle.rules_calls.specs.Map.{mapDecided, mapCall, mapBytes}
 use Rattle.rules_calls.specs.Call.{rowDone, commandDone, callDone, commandEdit, rowEdit, callEdit}
 use Rattle.iommufd.specs.Deciding.{firstId, secondId, commandIn, Decided, call-edit}
+use Rattle.edits.specs.Numbers.{allowEditAt}
 
 -- what is left by a command itself
 abbrev Left : Command → Table → List ℕ → List ℕ → Edit → List ℕ → List ℕ → Type 0
@@ -109,7 +109,7 @@ module _ (t : Table) (cmd area : List ℕ) where
   unfolding allocCall allocBytes
   alloc-left e cmd′ g k w = (k ∙ rw g, w ∙ rw (k, g), refl)
 
-  pub allow-left : (e : Edit) → gateErrno t 0x3B82 cmd ≡ 0 → e ≡ allowEdit (t .objects) (field 4 cmd 4) (field 4 cmd 8) (field 4 cmd 12) area → Left AllowIovas t cmd area e cmd area
+  pub allow-left : (e : Edit) → gateErrno t 0x3B82 cmd ≡ 0 → e ≡ allowEditAt (t .objects) (field 4 cmd 4) (field 4 cmd 8) (field 4 cmd 12) area → Left AllowIovas t cmd area e cmd area
   allow-left e g k = (k ∙ rw g, refl, refl)
 
   pub copy-left : (e : Edit) (cmd′ : List ℕ) → gateErrno t 0x3B83 cmd ≡ 0 → e ≡ copyDecided t cmd → cmd′ ≡ replied 8 24 (e .errno) (e .value) cmd → Left Copy t cmd area e cmd′ area
@@ -189,7 +189,7 @@ module _ (limit : ℕ) (os : List Object) (ms : List Mapping) (request : ℕ) (c
   pub alloc-arm : (cmd′ : List ℕ) → opened request cmd ≡ Open IoasAlloc → (d .free ≡ found (freeRecord os) → (e ≡ allocEdit os (field 4 cmd 4)) × (cmd′ ≡ replied 4 8 (e .errno) (e .value) cmd)) → Decided T request cmd area e cmd′ area
   alloc-arm cmd′ o h = let p = h (s .free) in arm T cmd area request IoasAlloc e cmd′ area o (alloc-left T cmd area e cmd′ (passed T cmd area request IoasAlloc g o) (p .0) (p .1))
 
-  pub allow-arm : opened request cmd ≡ Open AllowIovas → (d .first ≡ objectAt os (field 4 cmd 4) → Gathered os (d .blocks) → e ≡ allowEdit os (field 4 cmd 4) (field 4 cmd 8) (field 4 cmd 12) area) → Decided T request cmd area e cmd area
+  pub allow-arm : opened request cmd ≡ Open AllowIovas → (d .first ≡ objectAt os (field 4 cmd 4) → Gathered os (d .blocks) → e ≡ allowEditAt os (field 4 cmd 4) (field 4 cmd 8) (field 4 cmd 12) area) → Decided T request cmd area e cmd area
   allow-arm o h =
       let w = at-4 AllowIovas o (λ z. omega (arith, z)) (λ z. omega (arith, z)) (omega arith) in
       arm T cmd area request AllowIovas e cmd area o (allow-left T cmd area e (passed T cmd area request AllowIovas g o) (h (w .first) (w .blocks)))

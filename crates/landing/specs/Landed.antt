@@ -17,17 +17,12 @@ use Rattle.alignment.specs.declared.Spot.{Spot}
 use Rattle.alignment.specs.declared.Spot.the-variants.{Nowhere, At}
 use Rattle.alignment.specs.Multiples.{multiple, fits, fits-length, Lowest}
 use Rattle.rangelists.specs.Listed.{allowed}
-use Rattle.placement.specs.Candidates.{Candidate}
 use Rattle.placement.specs.Lowest.{place-lowest}
 use Rattle.rules_table.specs.declared.Object.{Object}
 use Rattle.rules_table.specs.declared.Mapping.{Mapping}
 use Rattle.rules_table.specs.Records.{objectAt, ofSpace, extent, touches}
 use Rattle.rules_table.specs.Spaces.{alignment, reservedOf}
-use Rattle.rules_calls.specs.Landing.{blockedIn, lowestTried, automatic, isNowhere, spotAddress, taken, fixedChecks, automaticChecks, placeChecks, placeAt}
-
--- a candidate for n bytes in space s
-abbrev pub CandidateIn : List Object → List Mapping → ℕ → ℕ → ℕ → Type 0
-CandidateIn os ms s n = Candidate (alignment os s) n lowestTried (blockedIn os ms s) (allowed (objectAt os s .allow))
+use Rattle.rules_calls.specs.Landing.{blockedIn, lowestTried, automatic, isNowhere, spotAddress, taken, fixedChecks, automaticChecks, placeChecks, placeAt, CandidateIn}
 
 -- the blocked ranges are touched exactly where a reserved range or a mapping of the space is
 pub any-blocked : (os : List Object) (ms : List Mapping) (s : ℕ) (r : Range) → any (share r) (blockedIn os ms s) ≡ (any (share r) (reservedOf os s) || any (touches s r) ms)

@@ -21,7 +21,7 @@ use Rattle.rules_table.specs.Spaces.{reservedFor, reservedOf}
 use Rattle.rules_table.specs.Good.{listsTouch, good}
 use Rattle.rules_calls.specs.Edits.{putObject, applied}
 use Rattle.rules_calls.specs.Answers.{outcome}
-use Rattle.rules_calls.specs.Allow.{numberAt, column, areaList, withAllow, numberChecks, listChecks, allowChecks, allowEdit, allowAnswer}
+use Rattle.rules_calls.specs.Allow.{numberAt, column, areaList, withAllow, listChecks, allowAnswer, allowEdit, allowNumberChecks, allowChecks}
 use Rattle.rules_calls.specs.Gate.{gateErrno}
 use Rattle.laws_good.specs.SpaceGood.{allow-good}
 use Rattle.laws_examples.specs.Plan.{u32, u64, answer, oneSpace, space-good}
@@ -52,7 +52,7 @@ allow-open = rw space-good
 
 -- K10, the list is taken
 pub k10-allowed : allowAnswer oneSpace askAllow allowArea ≡ answer (pos 0) (allowing [])
-unfolding allowAnswer outcome applied putObject allowEdit allowChecks numberChecks listChecks areaList column numberAt withAllow valid all ordered overlap clashes any listsTouch reservedOf reservedFor allowed listed places objectAt spaceAt first field put oneSpace tableOf result
+unfolding allowAnswer outcome applied putObject allowEdit allowChecks allowNumberChecks listChecks areaList column numberAt withAllow valid all ordered overlap clashes any listsTouch reservedOf reservedFor allowed listed places objectAt spaceAt first field put oneSpace tableOf result
 k10-allowed = rw allow-open
 
 allow-is : good (allowing []) ≡ true

@@ -28,14 +28,14 @@ use Rattle.rules_table.specs.Records.{zeroMapping, freeObject, objectAt, spaceA
 use Rattle.rules_table.specs.Spaces.{pageFor, alignment, reservedFor, reservedOf}
 use Rattle.rules_table.specs.Charge.{backs, mappingPages, backingPages, chargeIn, charge, freeMapping, freeBacking}
 use Rattle.rules_table.specs.Good.{good}
-use Rattle.rules_calls.specs.Copy.{isSource, sourceOf, copyNumberChecks, sourceChecks, recordChecks, copyChecks, copyOf, copying, copyEdit, copyDecided, copyCall, copyAnswer, copyBytes}
-use Rattle.rules_calls.specs.Unmap.{removedBytes, asksAll, rangeAsked, unmapNumberChecks, removalBy, removalChecks, unmapChecks, unmapEdit, unmapDecided, unmapCall, unmapAnswer, unmapBytes}
+use Rattle.rules_calls.specs.Copy.{isSource, sourceOf, sourceChecks, recordChecks, copyOf, copying, copyDecided, copyCall, copyAnswer, copyBytes, copyNumberChecks, copyChecks, copyEdit}
+use Rattle.rules_calls.specs.Unmap.{removedBytes, asksAll, rangeAsked, removalBy, removalChecks, unmapDecided, unmapCall, unmapAnswer, unmapBytes, unmapNumberChecks, unmapChecks, unmapEdit}
 use Rattle.rules_calls.specs.declared.Edit.{Edit}
 use Rattle.rules_calls.specs.declared.Answer.{Answer}
 use Rattle.rules_calls.specs.Edits.{putMapping, clearInside, applied}
 use Rattle.rules_calls.specs.Answers.{outcome, replied}
 use Rattle.rules_calls.specs.Landing.{blockedIn, automatic, taken, fixedChecks, automaticChecks, placeChecks, placeAt}
-use Rattle.rules_calls.specs.Map.{rightsOf, noRight, wrongLength, fixedPasses, mapNumberChecks, roomChecks, mapChecks, foundOf, founding, mapEdit, mapDecided, mapCall, mapAnswer, mapBytes}
+use Rattle.rules_calls.specs.Map.{rightsOf, noRight, wrongLength, fixedPasses, roomChecks, foundOf, founding, mapDecided, mapCall, mapAnswer, mapBytes, mapChecks, mapNumberChecks, mapEdit}
 use Rattle.rules_calls.specs.Gate.{gateErrno}
 use Rattle.laws_examples.specs.Plan.{u32, u64, answer}
 

@@ -19,7 +19,7 @@ use Rattle.freeranges.specs.Free.{between, endBelow, startAbove, around, withou
 use Rattle.freeranges.specs.Written.{putAt, putRanges}
 use Rattle.rules_table.specs.Records.{objectAt, spaceAt}
 use Rattle.rules_table.specs.Spaces.{pageFor, alignment, reservedFor, reservedOf}
-use Rattle.rules_calls.specs.Ranges.{freeOf, rangesChecks, rangesErrno, rangesBytes, rangesArea, rangesCall, rangesResult, rangesReply, rangesWritten}
+use Rattle.rules_calls.specs.Ranges.{freeOf, rangesBytes, rangesArea, rangesCall, rangesResult, rangesReply, rangesWritten, rangesChecks, rangesErrno}
 use Rattle.rules_calls.specs.Gate.{gateErrno}
 use Rattle.laws_examples.specs.Plan.{u32, u64, withDevice, attached, attached-good}
 

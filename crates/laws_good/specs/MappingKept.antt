@@ -25,13 +25,14 @@ use Rattle.edits.specs.Kept.{settle-sound}
 use Rattle.edits.specs.Untouched.{untouched-same, settle-untouched}
 use Rattle.rules_table.specs.Untouched.{Untouched}
 use Rattle.edits.specs.Mapped.{map-sound, map-untouched, clear-sound, clear-untouched}
-use Rattle.rules_calls.specs.Copy.{sourceOf, sourced, sourceMapping, copyChecks, copyOf, copying, copyEdit}
-use Rattle.rules_calls.specs.Unmap.{removedBytes, rangeAsked, unmapChecks, unmapEdit}
+use Rattle.rules_calls.specs.Copy.{sourceOf, sourced, sourceMapping, copyOf, copying, copyEdit}
+use Rattle.rules_calls.specs.Unmap.{removedBytes, rangeAsked, unmapEdit}
 use Rattle.rules_calls.specs.Landing.{placeAt}
 use Rattle.landing.specs.Landed.{Landed, place-landed}
-use Rattle.rules_calls.specs.Map.{numberIn, mapped, mapChecks, foundOf, founding, mapEdit}
+use Rattle.rules_calls.specs.Map.{numberIn, mapped, foundOf, founding, mapEdit}
 use Rattle.laws_mapping.specs.Passed.{MapPassed, map-passed, CopyPassed, copy-passed}
 use Rattle.laws_mapping.specs.Made.{free-record, free-number, found-used, found-alone, found-ok, SourceIs, source-is, copy-used, copy-alone, copy-ok, copy-shares}
+use Rattle.edits.specs.Numbers.{mapChecksAt, mapEditAt, copyChecksAt, copyEditAt, unmapChecksAt, unmapEditAt}
 
 -- ---- MAP
 
@@ -65,10 +66,10 @@ module _ (t : Table) (g : Sound t) (i b flags s memory n x a : ℕ) (free : free
       map-sound t i m (r .0) (r .1) g (upd (g .info) (m .backing) (backingOf m)) u ok (found-alone (t .objects) (t .mappings) b flags s memory n a l)
       (agree-new (t .mappings) i m (r .0) (r .1) (g .info) new-backing (g .agree)) (omega (arith, c, new-pages, p .room))
 
-pub map-kept : (t : Table) (flags s z memory n x : ℕ) → Sound t → Sound (applied t (mapEdit (t .limit) (t .objects) (t .mappings) flags s z memory n x))
+pub map-kept : (t : Table) (flags s z memory n x : ℕ) → Sound t → Sound (applied t (mapEditAt (t .limit) (t .objects) (t .mappings) flags s z memory n x))
 unfolding mapEdit founding
 map-kept t flags s z memory n x g =
-    settle-sound t (first (mapChecks (t .limit) (t .objects) (t .mappings) flags s z memory n x) 0) _ g (λ e.
+    settle-sound t (first (mapChecksAt (t .limit) (t .objects) (t .mappings) flags s z memory n x) 0) _ g (λ e.
     let p = map-passed (t .limit) (t .objects) (t .mappings) flags s z memory n x e in
     go (freeMapping (t .mappings)) refl p (place-landed (t .objects) (t .mappings) s n (bit 0 flags) x (p .wanted .fixed) (p .placed)))
   where
@@ -86,10 +87,10 @@ module _ (t : Table) (g : Sound t) (m : Mapping) (k : ℕ) (ne : m .space ≡ k 
   put-other none e = untouched-same k t
   put-other (some i) e = let r = free-record (t .objects) (t .mappings) i (g .records) e in map-untouched t i m (r .0) (r .1) k ne
 
-pub map-other : (k : ℕ) (t : Table) (flags s z memory n x : ℕ) → Sound t → (s ≡ k → ⊥) → Untouched k t (applied t (mapEdit (t .limit) (t .objects) (t .mappings) flags s z memory n x))
+pub map-other : (k : ℕ) (t : Table) (flags s z memory n x : ℕ) → Sound t → (s ≡ k → ⊥) → Untouched k t (applied t (mapEditAt (t .limit) (t .objects) (t .mappings) flags s z memory n x))
 unfolding mapEdit founding foundOf
 map-other k t flags s z memory n x g ne =
-    settle-untouched k t (first (mapChecks (t .limit) (t .objects) (t .mappings) flags s z memory n x) 0) _ (λ e. put-other t g _ k ne (freeMapping (t .mappings)) refl)
+    settle-untouched k t (first (mapChecksAt (t .limit) (t .objects) (t .mappings) flags s z memory n x) 0) _ (λ e. put-other t g _ k ne (freeMapping (t .mappings)) refl)
 
 -- ---- COPY
 
@@ -115,10 +116,10 @@ module _ (t : Table) (g : Sound t) (i : ℕ) (m : Mapping) (flags target source 
       map-sound t i c (r .0) (r .1) g (g .info) u ok (copy-alone (t .objects) (t .mappings) m flags target n a l)
       (agree-joined (t .mappings) i c (r .0) (r .1) (g .info) old-shares (g .agree)) (omega (arith, same, g .charged))
 
-pub copy-kept : (t : Table) (flags target source n x y : ℕ) → Sound t → Sound (applied t (copyEdit (t .objects) (t .mappings) flags target source n x y))
+pub copy-kept : (t : Table) (flags target source n x y : ℕ) → Sound t → Sound (applied t (copyEditAt (t .objects) (t .mappings) flags target source n x y))
 unfolding copyEdit copying
 copy-kept t flags target source n x y g =
-    settle-sound t (first (copyChecks (t .objects) (t .mappings) flags target source n x y) 0) _ g (λ e.
+    settle-sound t (first (copyChecksAt (t .objects) (t .mappings) flags target source n x y) 0) _ g (λ e.
     let p = copy-passed (t .objects) (t .mappings) flags target source n x y e in
     go (freeMapping (t .mappings)) refl p (place-landed (t .objects) (t .mappings) target n (bit 0 flags) x (p .wanted .fixed) (p .placed)))
   where
@@ -129,19 +130,19 @@ copy-kept t flags target source n x y g =
         copied-sound t g i (sourceMapping (sourced (sourceOf (t .mappings) source y n))) flags target source n x y (placeAt (t .objects) (t .mappings) target (bit 0 flags) n x) e p
         (source-is (t .objects) (g .info) (t .mappings) (g .records) (g .agree) source y n (p .source-space) (p .found-source)) (p .right) l
 
-pub copy-other : (k : ℕ) (t : Table) (flags target source n x y : ℕ) → Sound t → (target ≡ k → ⊥) → Untouched k t (applied t (copyEdit (t .objects) (t .mappings) flags target source n x y))
+pub copy-other : (k : ℕ) (t : Table) (flags target source n x y : ℕ) → Sound t → (target ≡ k → ⊥) → Untouched k t (applied t (copyEditAt (t .objects) (t .mappings) flags target source n x y))
 unfolding copyEdit copying copyOf
 copy-other k t flags target source n x y g ne =
-    settle-untouched k t (first (copyChecks (t .objects) (t .mappings) flags target source n x y) 0) _ (λ e. put-other t g _ k ne (freeMapping (t .mappings)) refl)
+    settle-untouched k t (first (copyChecksAt (t .objects) (t .mappings) flags target source n x y) 0) _ (λ e. put-other t g _ k ne (freeMapping (t .mappings)) refl)
 
 -- ---- UNMAP
 
-pub unmap-kept : (t : Table) (s a n : ℕ) → Sound t → Sound (applied t (unmapEdit (t .objects) (t .mappings) s a n))
+pub unmap-kept : (t : Table) (s a n : ℕ) → Sound t → Sound (applied t (unmapEditAt (t .objects) (t .mappings) s a n))
 unfolding unmapEdit applied
 unmap-kept t s a n g =
-    settle-sound t (first (unmapChecks (t .objects) (t .mappings) s a n) 0) (accept (removedBytes s (rangeAsked a n) (t .mappings)) (Clear s (rangeAsked a n)) freeObject) g (λ e. clear-sound t s (rangeAsked a n) g)
+    settle-sound t (first (unmapChecksAt (t .objects) (t .mappings) s a n) 0) (accept (removedBytes s (rangeAsked a n) (t .mappings)) (Clear s (rangeAsked a n)) freeObject) g (λ e. clear-sound t s (rangeAsked a n) g)
 
-pub unmap-other : (k : ℕ) (t : Table) (s a n : ℕ) → (s ≡ k → ⊥) → Untouched k t (applied t (unmapEdit (t .objects) (t .mappings) s a n))
+pub unmap-other : (k : ℕ) (t : Table) (s a n : ℕ) → (s ≡ k → ⊥) → Untouched k t (applied t (unmapEditAt (t .objects) (t .mappings) s a n))
 unfolding unmapEdit applied
 unmap-other k t s a n ne =
-    settle-untouched k t (first (unmapChecks (t .objects) (t .mappings) s a n) 0) (accept (removedBytes s (rangeAsked a n) (t .mappings)) (Clear s (rangeAsked a n)) freeObject) (λ e. clear-untouched k t s (rangeAsked a n) ne)
+    settle-untouched k t (first (unmapChecksAt (t .objects) (t .mappings) s a n) 0) (accept (removedBytes s (rangeAsked a n) (t .mappings)) (Clear s (rangeAsked a n)) freeObject) (λ e. clear-untouched k t s (rangeAsked a n) ne)

@@ -21,8 +21,9 @@ use Rattle.rules_calls.specs.Edits.{accept, placed, applied}
 use Rattle.edits.specs.Untouched.{settle-untouched, put-untouched, drop-untouched, placed-untouched}
 use Rattle.rules_table.specs.Untouched.{Untouched}
 use Rattle.rules_calls.specs.Objects.{allocChecks, allocEdit, destroyChecks, removal, destroyEdit}
-use Rattle.rules_calls.specs.Allow.{areaList, withAllow, allowChecks, allowEdit}
+use Rattle.rules_calls.specs.Allow.{areaList, withAllow, allowEdit}
 use Rattle.laws_good.specs.SpaceKept.{object-place, is-object, is-loose, allow-space, is-kind}
+use Rattle.edits.specs.Numbers.{allowChecksAt, allowEditAt}
 
 pub alloc-untouched : (s : ℕ) (t : Table) (flags : ℕ) → Sound t → spaceAt (t .objects) s ≡ true → Untouched s t (applied t (allocEdit (t .objects) flags))
 unfolding allocEdit
@@ -52,11 +53,11 @@ space-kind : (os : List Object) (h : ℕ) → spaceAt os h ≡ true → objectAt
 unfolding spaceAt
 space-kind os h e = is-kind (objectAt os h .kind) e
 
-pub allow-untouched : (s : ℕ) (t : Table) (h count z : ℕ) (area : List ℕ) → (h ≡ s → ⊥) → Untouched s t (applied t (allowEdit (t .objects) h count z area))
+pub allow-untouched : (s : ℕ) (t : Table) (h count z : ℕ) (area : List ℕ) → (h ≡ s → ⊥) → Untouched s t (applied t (allowEditAt (t .objects) h count z area))
 unfolding allowEdit applied withAllow
 allow-untouched s t h count z area ne =
     let os = t .objects in
-    settle-untouched s t (first (allowChecks os h count z area) 0) (accept 0 (Put (h - 1)) (withAllow (objectAt os h) (areaList count area)))
+    settle-untouched s t (first (allowChecksAt os h count z area) 0) (accept 0 (Put (h - 1)) (withAllow (objectAt os h) (areaList count area)))
     (λ e.
     let sp = allow-space os h count z area e in
     let p = spaceAt-place os h sp in

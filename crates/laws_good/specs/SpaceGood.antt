@@ -14,10 +14,11 @@ use Rattle.edits.specs.Kept.{settle-sound}
 use Rattle.edits.specs.Untouched.{settle-untouched}
 use Rattle.rules_table.specs.Untouched.{Untouched}
 use Rattle.rules_calls.specs.Objects.{allocEdit, destroyEdit, allocCall, allocAnswer, destroyAnswer}
-use Rattle.rules_calls.specs.Allow.{allowEdit, allowAnswer}
+use Rattle.rules_calls.specs.Allow.{allowAnswer}
 use Rattle.laws_good.specs.SpaceKept.{alloc-sound, destroy-sound, allow-sound}
 use Rattle.laws_good.specs.SpaceApart.{alloc-untouched, destroy-untouched, allow-untouched}
 use Rattle.rules_calls.specs.Gate.{gateErrno}
+use Rattle.edits.specs.Numbers.{allowEditAt}
 
 module _ (t : Table) (g : good t ≡ true) (bytes : List ℕ) where
   pub alloc-good : good (allocAnswer t bytes .table) ≡ true
@@ -35,8 +36,8 @@ module _ (t : Table) (g : good t ≡ true) (bytes : List ℕ) where
   pub allow-good : (area : List ℕ) → good (allowAnswer t bytes area .table) ≡ true
   unfolding allowAnswer outcome
   allow-good area =
-      sound-good (applied t (settle (gateErrno t 0x3B82 bytes) (allowEdit (t .objects) (field 4 bytes 4) (field 4 bytes 8) (field 4 bytes 12) area)))
-      (settle-sound t (gateErrno t 0x3B82 bytes) (allowEdit (t .objects) (field 4 bytes 4) (field 4 bytes 8) (field 4 bytes 12) area) (good-sound t g)
+      sound-good (applied t (settle (gateErrno t 0x3B82 bytes) (allowEditAt (t .objects) (field 4 bytes 4) (field 4 bytes 8) (field 4 bytes 12) area)))
+      (settle-sound t (gateErrno t 0x3B82 bytes) (allowEditAt (t .objects) (field 4 bytes 4) (field 4 bytes 8) (field 4 bytes 12) area) (good-sound t g)
       (λ e. allow-sound t (field 4 bytes 4) (field 4 bytes 8) (field 4 bytes 12) area (good-sound t g)))
 
   -- every space is as it was after IOAS_ALLOC, every other one after DESTROY and ALLOW_IOVAS
@@ -51,4 +52,4 @@ module _ (t : Table) (g : good t ≡ true) (bytes : List ℕ) where
   pub allow-apart : (area : List ℕ) (s : ℕ) → (field 4 bytes 4 ≡ s → ⊥) → Untouched s t (allowAnswer t bytes area .table)
   unfolding allowAnswer outcome
   allow-apart area s ne =
-      settle-untouched s t (gateErrno t 0x3B82 bytes) (allowEdit (t .objects) (field 4 bytes 4) (field 4 bytes 8) (field 4 bytes 12) area) (λ e. allow-untouched s t (field 4 bytes 4) (field 4 bytes 8) (field 4 bytes 12) area ne)
+      settle-untouched s t (gateErrno t 0x3B82 bytes) (allowEditAt (t .objects) (field 4 bytes 4) (field 4 bytes 8) (field 4 bytes 12) area) (λ e. allow-untouched s t (field 4 bytes 4) (field 4 bytes 8) (field 4 bytes 12) area ne)

@@ -37,7 +37,8 @@ use Rattle.rules_calls.specs.declared.Change.the-variants.{Put}
 use Rattle.rules_calls.specs.Edits.{accept, placed, putObject, applied}
 use Rattle.edits.specs.Kept.{put-sound, drop-sound, free-ok, quiet-bears, elsewhere, settle-sound, placed-sound}
 use Rattle.rules_calls.specs.Objects.{allocChecks, allocEdit, inUse, destroyChecks, removal, destroyEdit}
-use Rattle.rules_calls.specs.Allow.{numberAt, column, areaList, withAllow, numberChecks, listChecks, allowChecks, allowEdit}
+use Rattle.rules_calls.specs.Allow.{numberAt, column, areaList, withAllow, listChecks, allowEdit, allowNumberChecks, allowChecks}
+use Rattle.edits.specs.Numbers.{allowChecksAt, allowEditAt}
 
 -- ---- IOAS_ALLOC
 
@@ -110,31 +111,31 @@ destroy-sound t id g =
 
 -- ---- ALLOW_IOVAS
 
-module _ (os : List Object) (s count z : ℕ) (area : List ℕ) (e : first (allowChecks os s count z area) 0 ≡ 0) where
-  allow-passed : (i : ℕ) → i < 6 → getD (allowChecks os s count z area) i (when false 0) .fires ≡ false
-  unfolding allowChecks numberChecks listChecks
+module _ (os : List Object) (s count z : ℕ) (area : List ℕ) (e : first (allowChecksAt os s count z area) 0 ≡ 0) where
+  allow-passed : (i : ℕ) → i < 6 → getD (allowChecksAt os s count z area) i (when false 0) .fires ≡ false
+  unfolding allowChecks allowNumberChecks listChecks
   allow-passed i h =
-      passed (allowChecks os s count z area) 0 (when false 0)
+      passed (allowChecksAt os s count z area) 0 (when false 0)
       (λ y. omega (arith, y), (λ y. omega (arith, y), (λ y. omega (arith, y), (λ y. omega (arith, y), (λ y. omega (arith, y), (λ y. omega (arith, y), tt)))))) e i h
 
   pub allow-space : spaceAt os s ≡ true
-  unfolding allowChecks numberChecks listChecks
+  unfolding allowChecks allowNumberChecks listChecks
   allow-space = not-false (spaceAt os s) (allow-passed 1 (omega arith))
 
   allow-count : count ≤ 8
-  unfolding allowChecks numberChecks listChecks
+  unfolding allowChecks allowNumberChecks listChecks
   allow-count = ltb-false 8 count (allow-passed 2 (omega arith))
 
   allow-valid : valid (allowed (areaList count area)) ≡ true
-  unfolding allowChecks numberChecks listChecks
+  unfolding allowChecks allowNumberChecks listChecks
   allow-valid = not-false (valid (allowed (areaList count area))) (or-not-left (not (valid (allowed (areaList count area)))) (overlap (allowed (areaList count area))) (allow-passed 4 (omega arith)))
 
   allow-apart : overlap (allowed (areaList count area)) ≡ false
-  unfolding allowChecks numberChecks listChecks
+  unfolding allowChecks allowNumberChecks listChecks
   allow-apart = or-not-right (not (valid (allowed (areaList count area)))) (overlap (allowed (areaList count area))) (allow-passed 4 (omega arith))
 
   allow-clear : listsTouch (reservedOf os s) (allowed (areaList count area)) ≡ false
-  unfolding allowChecks numberChecks listChecks
+  unfolding allowChecks allowNumberChecks listChecks
   allow-clear = allow-passed 5 (omega arith)
 
 -- the places beyond the count are zero
@@ -189,7 +190,7 @@ is-kind Free e = contrary false e refl
 is-kind Space e = refl
 is-kind (Device a) e = contrary false e refl
 
-module _ (t : Table) (s count z : ℕ) (area : List ℕ) (g : Sound t) (e : first (allowChecks (t .objects) s count z area) 0 ≡ 0) where
+module _ (t : Table) (s count z : ℕ) (area : List ℕ) (g : Sound t) (e : first (allowChecksAt (t .objects) s count z area) 0 ≡ 0) where
   kind-space : objectAt (t .objects) s .kind ≡ Space
   unfolding spaceAt
   kind-space = is-kind (objectAt (t .objects) s .kind) (allow-space (t .objects) s count z area e)
@@ -229,10 +230,10 @@ module _ (t : Table) (s count z : ℕ) (area : List ℕ) (g : Sound t) (e : firs
       (λ q. rw (eqb-true (m .space) (suc i) q) (spaceAt-set-same (t .objects) i (withAllow (objectAt (t .objects) s) (areaList count area)) h ∙ ap isSpace kind-space))
       (λ q. spaceAt-set-other (t .objects) i (withAllow (objectAt (t .objects) s) (areaList count area)) (m .space) (eqb-false (m .space) (suc i) q) ∙ k .names)
 
-pub allow-sound : (t : Table) (s count z : ℕ) (area : List ℕ) → Sound t → Sound (applied t (allowEdit (t .objects) s count z area))
+pub allow-sound : (t : Table) (s count z : ℕ) (area : List ℕ) → Sound t → Sound (applied t (allowEditAt (t .objects) s count z area))
 unfolding allowEdit applied
 allow-sound t s count z area g =
-    settle-sound t (first (allowChecks (t .objects) s count z area) 0) (accept 0 (Put (s - 1)) (withAllow (objectAt (t .objects) s) (areaList count area))) g
+    settle-sound t (first (allowChecksAt (t .objects) s count z area) 0) (accept 0 (Put (s - 1)) (withAllow (objectAt (t .objects) s) (areaList count area))) g
     (λ e.
     let n = withAllow (objectAt (t .objects) s) (areaList count area) in
     let p = spaceAt-place (t .objects) s (allow-space (t .objects) s count z area e) in

@@ -27,9 +27,10 @@ use Rattle.rules_table.specs.Fits.{bindChecks}
 use Rattle.rules_calls.specs.Bind.{newDevice, bindEdit, bindCall, bindRule}
 use Rattle.rules_calls.specs.Attach.{attachedObject, looseObject, attachChecks, attachEdit, detachChecks, detachEdit, attachCall, detachCall}
 use Rattle.laws_good.specs.DeviceKept.{device-place, detach-passed, is-device}
-use Rattle.rules_calls.specs.Allow.{areaList, withAllow, allowChecks, allowEdit, allowAnswer}
+use Rattle.rules_calls.specs.Allow.{areaList, withAllow, allowAnswer, allowEdit}
 use Rattle.laws_good.specs.SpaceKept.{allow-space}
 use Rattle.rules_calls.specs.Gate.{gateErrno, tableErrno}
+use Rattle.edits.specs.Numbers.{allowChecksAt, allowEditAt}
 
 pub record Calm (t u : Table) : Type 0 where
   pub mappings : u .mappings ≡ t .mappings
@@ -88,8 +89,8 @@ space-kind t h e = e
 pub allow-calm : (t : Table) (bytes area : List ℕ) → Calm t (allowAnswer t bytes area .table)
 unfolding allowAnswer outcome allowEdit withAllow
 allow-calm t bytes area =
-    settle-calm t (gateErrno t 0x3B82 bytes) (allowEdit (t .objects) (field 4 bytes 4) (field 4 bytes 8) (field 4 bytes 12) area) (λ z.
-    settle-calm t (first (allowChecks (t .objects) (field 4 bytes 4) (field 4 bytes 8) (field 4 bytes 12) area) 0) (accept 0 (Put (field 4 bytes 4 - 1)) (withAllow (objectAt (t .objects) (field 4 bytes 4)) (areaList (field 4 bytes 8) area))) (λ e.
+    settle-calm t (gateErrno t 0x3B82 bytes) (allowEditAt (t .objects) (field 4 bytes 4) (field 4 bytes 8) (field 4 bytes 12) area) (λ z.
+    settle-calm t (first (allowChecksAt (t .objects) (field 4 bytes 4) (field 4 bytes 8) (field 4 bytes 12) area) 0) (accept 0 (Put (field 4 bytes 4 - 1)) (withAllow (objectAt (t .objects) (field 4 bytes 4)) (areaList (field 4 bytes 8) area))) (λ e.
     let sp = allow-space (t .objects) (field 4 bytes 4) (field 4 bytes 8) (field 4 bytes 12) area e in
     allow-put t (field 4 bytes 4) (withAllow (objectAt (t .objects) (field 4 bytes 4)) (areaList (field 4 bytes 8) area)) (space-kind t (field 4 bytes 4) sp) sp))
 

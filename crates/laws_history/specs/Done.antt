@@ -16,11 +16,12 @@ use Rattle.table.specs.Charged.{free-backing}
 use Rattle.rules_calls.specs.declared.Change.the-variants.{Map, Clear}
 use Rattle.rules_calls.specs.declared.Edit.{Edit}
 use Rattle.rules_calls.specs.Edits.{accept}
-use Rattle.rules_calls.specs.Copy.{sourceOf, sourced, sourceMapping, isMissing, copyChecks, copyOf, copying, copyEdit}
-use Rattle.rules_calls.specs.Unmap.{removedBytes, rangeAsked, unmapChecks, unmapEdit}
+use Rattle.rules_calls.specs.Copy.{sourceOf, sourced, sourceMapping, isMissing, copyOf, copying, copyEdit}
+use Rattle.rules_calls.specs.Unmap.{removedBytes, rangeAsked, unmapEdit}
 use Rattle.rules_calls.specs.Landing.{placeAt}
-use Rattle.rules_calls.specs.Map.{mapped, mapChecks, foundOf, founding, mapEdit}
+use Rattle.rules_calls.specs.Map.{mapped, foundOf, founding, mapEdit}
 use Rattle.laws_mapping.specs.Passed.{settled-zero, MapPassed, map-passed, CopyPassed, copy-passed, UnmapPassed, unmap-passed}
+use Rattle.edits.specs.Numbers.{mapChecksAt, mapEditAt, copyChecksAt, copyEditAt, unmapChecksAt, unmapEditAt}
 
 -- ---- MAP
 
@@ -33,12 +34,12 @@ pub record MapDone (t : Table) (flags s memory n x : ℕ) (e : Edit) : Type 0 wh
   pub passed : MapPassed (t .limit) (t .objects) (t .mappings) flags s memory n x
   pub is : e ≡ accept address (Map place (foundOf number flags s memory n address)) freeObject
 
-pub map-done : (t : Table) (flags s z memory n x : ℕ) → Sound t → mapEdit (t .limit) (t .objects) (t .mappings) flags s z memory n x .errno ≡ 0
-    → MapDone t flags s memory n x (mapEdit (t .limit) (t .objects) (t .mappings) flags s z memory n x)
+pub map-done : (t : Table) (flags s z memory n x : ℕ) → Sound t → mapEditAt (t .limit) (t .objects) (t .mappings) flags s z memory n x .errno ≡ 0
+    → MapDone t flags s memory n x (mapEditAt (t .limit) (t .objects) (t .mappings) flags s z memory n x)
 unfolding mapEdit founding foundOf
 map-done t flags s z memory n x g e =
-    let checks : first (mapChecks (t .limit) (t .objects) (t .mappings) flags s z memory n x) 0 ≡ 0
-    = settled-zero (first (mapChecks (t .limit) (t .objects) (t .mappings) flags s z memory n x) 0) (mapped (found (freeMapping (t .mappings))) (founding (t .objects) (t .mappings) flags s memory n x)) e in
+    let checks : first (mapChecksAt (t .limit) (t .objects) (t .mappings) flags s z memory n x) 0 ≡ 0
+    = settled-zero (first (mapChecksAt (t .limit) (t .objects) (t .mappings) flags s z memory n x) 0) (mapped (found (freeMapping (t .mappings))) (founding (t .objects) (t .mappings) flags s memory n x)) e in
     let p = map-passed (t .limit) (t .objects) (t .mappings) flags s z memory n x checks in
     rw checks (go p (freeMapping (t .mappings)) refl)
   where
@@ -73,12 +74,12 @@ pub record CopyDone (t : Table) (flags target source n x y : ℕ) (e : Edit) : T
   pub passed : CopyPassed (t .objects) (t .mappings) flags target source n x y
   pub is : e ≡ accept address (Map place (copyOf from flags target n address)) freeObject
 
-pub copy-done : (t : Table) (flags target source n x y : ℕ) → copyEdit (t .objects) (t .mappings) flags target source n x y .errno ≡ 0
-    → CopyDone t flags target source n x y (copyEdit (t .objects) (t .mappings) flags target source n x y)
+pub copy-done : (t : Table) (flags target source n x y : ℕ) → copyEditAt (t .objects) (t .mappings) flags target source n x y .errno ≡ 0
+    → CopyDone t flags target source n x y (copyEditAt (t .objects) (t .mappings) flags target source n x y)
 unfolding copyEdit copying copyOf
 copy-done t flags target source n x y e =
-    let checks : first (copyChecks (t .objects) (t .mappings) flags target source n x y) 0 ≡ 0
-    = settled-zero (first (copyChecks (t .objects) (t .mappings) flags target source n x y) 0) (mapped (found (freeMapping (t .mappings))) (copying (t .objects) (t .mappings) (sourceMapping (sourced (sourceOf (t .mappings) source y n))) flags target n x)) e in
+    let checks : first (copyChecksAt (t .objects) (t .mappings) flags target source n x y) 0 ≡ 0
+    = settled-zero (first (copyChecksAt (t .objects) (t .mappings) flags target source n x y) 0) (mapped (found (freeMapping (t .mappings))) (copying (t .objects) (t .mappings) (sourceMapping (sourced (sourceOf (t .mappings) source y n))) flags target n x)) e in
     let p = copy-passed (t .objects) (t .mappings) flags target source n x y checks in
     rw checks (go p (freeMapping (t .mappings)) refl (sourceOf (t .mappings) source y n) refl)
   where
@@ -98,10 +99,10 @@ copy-done t flags target source n x y e =
 
 -- ---- UNMAP
 
-pub unmap-done : (t : Table) (s a n : ℕ) → unmapEdit (t .objects) (t .mappings) s a n .errno ≡ 0
-    → UnmapPassed (t .objects) (t .mappings) s a n × (unmapEdit (t .objects) (t .mappings) s a n ≡ accept (removedBytes s (rangeAsked a n) (t .mappings)) (Clear s (rangeAsked a n)) freeObject)
+pub unmap-done : (t : Table) (s a n : ℕ) → unmapEditAt (t .objects) (t .mappings) s a n .errno ≡ 0
+    → UnmapPassed (t .objects) (t .mappings) s a n × (unmapEditAt (t .objects) (t .mappings) s a n ≡ accept (removedBytes s (rangeAsked a n) (t .mappings)) (Clear s (rangeAsked a n)) freeObject)
 unfolding unmapEdit
 unmap-done t s a n e =
-    let checks : first (unmapChecks (t .objects) (t .mappings) s a n) 0 ≡ 0
-    = settled-zero (first (unmapChecks (t .objects) (t .mappings) s a n) 0) (accept (removedBytes s (rangeAsked a n) (t .mappings)) (Clear s (rangeAsked a n)) freeObject) e in
+    let checks : first (unmapChecksAt (t .objects) (t .mappings) s a n) 0 ≡ 0
+    = settled-zero (first (unmapChecksAt (t .objects) (t .mappings) s a n) 0) (accept (removedBytes s (rangeAsked a n) (t .mappings)) (Clear s (rangeAsked a n)) freeObject) e in
     (unmap-passed (t .objects) (t .mappings) s a n checks, rw checks)

@@ -21,16 +21,17 @@ use Rattle.rules_table.specs.declared.Table.{Table}
 use Rattle.rules_table.specs.Records.{within, cutBy}
 use Rattle.rules_table.specs.Charge.{charge, freeMapping}
 use Rattle.rules_table.specs.Good.{good}
-use Rattle.rules_calls.specs.Map.{mapNumberChecks, roomChecks, mapChecks, foundOf, founding, mapEdit, mapDecided, mapCall, mapAnswer, mapBytes}
-use Rattle.rules_calls.specs.Unmap.{asksAll, rangeAsked, unmapNumberChecks, removalBy, removalChecks, unmapChecks, unmapEdit, unmapDecided, unmapCall, unmapAnswer, unmapBytes}
-use Rattle.rules_calls.specs.Allow.{areaList, numberChecks, listChecks, allowChecks, allowEdit, allowAnswer}
-use Rattle.rules_calls.specs.Ranges.{freeOf, rangesChecks, rangesErrno, repliesTo, rangesBytes, rangesArea, errnoOr, rangesCall, rangesResult, rangesReply, rangesWritten}
+use Rattle.rules_calls.specs.Map.{roomChecks, foundOf, founding, mapDecided, mapCall, mapAnswer, mapBytes, mapChecks, mapNumberChecks, mapEdit}
+use Rattle.rules_calls.specs.Unmap.{asksAll, rangeAsked, removalBy, removalChecks, unmapDecided, unmapCall, unmapAnswer, unmapBytes, unmapChecks, unmapEdit, unmapNumberChecks}
+use Rattle.rules_calls.specs.Allow.{areaList, listChecks, allowAnswer, allowChecks, allowEdit, allowNumberChecks}
+use Rattle.rules_calls.specs.Ranges.{freeOf, repliesTo, rangesBytes, rangesArea, errnoOr, rangesCall, rangesResult, rangesReply, rangesWritten, rangesChecks, rangesErrno}
 use Rattle.rules_calls.specs.Gate.{gateErrno}
 use Rattle.rules_history.specs.Alike.{Alike}
 use Rattle.laws_isolation.specs.Mappings.{within-alike, cut-alike, removed-alike, free-alike}
 use Rattle.laws_isolation.specs.Devices.{touch-alike, free-ranges-alike}
 use Rattle.laws_isolation.specs.Placed.{aligned-alike, place-checks-alike, place-alike}
 use Rattle.laws_isolation.specs.Told.{TellAlike, settle-alike, mapped-alike, gate-alike, result-alike, replied-alike}
+use Rattle.edits.specs.Numbers.{mapNumberChecksAt, mapChecksAt, mapEditAt, unmapNumberChecksAt, unmapChecksAt, unmapEditAt, allowNumberChecksAt, allowChecksAt, allowEditAt, rangesErrnoAt}
 
 -- ---- the checks, each the same test in both tables
 
@@ -45,22 +46,22 @@ module _ (s : ℕ) (t u : Table) (a : Alike s t u) where
   room-alike pages = rw (free-alike (t .mappings) (u .mappings) (a .free), over-alike pages)
 
   module _ (flags z memory n x : ℕ) where
-    map-numbers-alike : mapNumberChecks (t .objects) flags s z memory n x ≡ mapNumberChecks (u .objects) flags s z memory n x
+    map-numbers-alike : mapNumberChecksAt (t .objects) flags s z memory n x ≡ mapNumberChecksAt (u .objects) flags s z memory n x
     unfolding mapNumberChecks
     map-numbers-alike = rw (a .space)
 
-    map-checks-alike : mapChecks (t .limit) (t .objects) (t .mappings) flags s z memory n x ≡ mapChecks (u .limit) (u .objects) (u .mappings) flags s z memory n x
+    map-checks-alike : mapChecksAt (t .limit) (t .objects) (t .mappings) flags s z memory n x ≡ mapChecksAt (u .limit) (u .objects) (u .mappings) flags s z memory n x
     unfolding mapChecks
     map-checks-alike = rw (map-numbers-alike, place-checks-alike s t u a n x (bit 0 flags), room-alike (pagesTouched memory n))
 
-    map-edit-alike : TellAlike (mapEdit (t .limit) (t .objects) (t .mappings) flags s z memory n x) (mapEdit (u .limit) (u .objects) (u .mappings) flags s z memory n x)
+    map-edit-alike : TellAlike (mapEditAt (t .limit) (t .objects) (t .mappings) flags s z memory n x) (mapEditAt (u .limit) (u .objects) (u .mappings) flags s z memory n x)
     unfolding mapEdit founding foundOf
     map-edit-alike =
         settle-alike _ _ _ _ (ap (λ (l : List (Check ℕ)). first l 0) map-checks-alike)
         (mapped-alike (found (freeMapping (t .mappings))) (found (freeMapping (u .mappings))) _ _ (free-alike (t .mappings) (u .mappings) (a .free)) (place-alike s t u a n x (bit 0 flags)))
 
   module _ (x n : ℕ) where
-    unmap-numbers-alike : unmapNumberChecks (t .objects) s x n ≡ unmapNumberChecks (u .objects) s x n
+    unmap-numbers-alike : unmapNumberChecksAt (t .objects) s x n ≡ unmapNumberChecksAt (u .objects) s x n
     unfolding unmapNumberChecks
     unmap-numbers-alike = rw (a .space)
 
@@ -70,37 +71,37 @@ module _ (s : ℕ) (t u : Table) (a : Alike s t u) where
         ap (λ (b : Bool). removalBy (asksAll x n) b (any (within s (rangeAsked x n)) (t .mappings))) (cut-alike s (t .mappings) (u .mappings) (a .mappings) (rangeAsked x n))
         ∙ ap (removalBy (asksAll x n) (any (cutBy s (rangeAsked x n)) (u .mappings))) (within-alike s (t .mappings) (u .mappings) (a .mappings) (rangeAsked x n))
 
-    unmap-checks-alike : unmapChecks (t .objects) (t .mappings) s x n ≡ unmapChecks (u .objects) (u .mappings) s x n
+    unmap-checks-alike : unmapChecksAt (t .objects) (t .mappings) s x n ≡ unmapChecksAt (u .objects) (u .mappings) s x n
     unfolding unmapChecks
     unmap-checks-alike = rw (unmap-numbers-alike, removal-alike)
 
-    unmap-edit-alike : TellAlike (unmapEdit (t .objects) (t .mappings) s x n) (unmapEdit (u .objects) (u .mappings) s x n)
+    unmap-edit-alike : TellAlike (unmapEditAt (t .objects) (t .mappings) s x n) (unmapEditAt (u .objects) (u .mappings) s x n)
     unfolding unmapEdit
     unmap-edit-alike =
         settle-alike _ _ _ _ (ap (λ (l : List (Check ℕ)). first l 0) unmap-checks-alike)
         (record { errno = refl; value = removed-alike s (t .mappings) (u .mappings) (a .mappings) (rangeAsked x n) })
 
   module _ (count z : ℕ) (area : List ℕ) where
-    allow-numbers-alike : numberChecks (t .objects) s count z (length area) ≡ numberChecks (u .objects) s count z (length area)
-    unfolding numberChecks
+    allow-numbers-alike : allowNumberChecksAt (t .objects) s count z (length area) ≡ allowNumberChecksAt (u .objects) s count z (length area)
+    unfolding allowNumberChecks
     allow-numbers-alike = rw (a .space)
 
     list-alike : listChecks (t .objects) s (areaList count area) ≡ listChecks (u .objects) s (areaList count area)
     unfolding listChecks
     list-alike = rw (touch-alike s (t .objects) (u .objects) (a .devices) (allowed (areaList count area)))
 
-    allow-checks-alike : allowChecks (t .objects) s count z area ≡ allowChecks (u .objects) s count z area
+    allow-checks-alike : allowChecksAt (t .objects) s count z area ≡ allowChecksAt (u .objects) s count z area
     unfolding allowChecks
     allow-checks-alike = rw (allow-numbers-alike, list-alike)
 
-    allow-edit-alike : TellAlike (allowEdit (t .objects) s count z area) (allowEdit (u .objects) s count z area)
+    allow-edit-alike : TellAlike (allowEditAt (t .objects) s count z area) (allowEditAt (u .objects) s count z area)
     unfolding allowEdit
     allow-edit-alike = settle-alike _ _ _ _ (ap (λ (l : List (Check ℕ)). first l 0) allow-checks-alike) (record { errno = refl; value = refl })
 
   listed-alike : freeOf (t .objects) s ≡ freeOf (u .objects) s
   listed-alike = free-ranges-alike s (t .objects) (u .objects) (a .devices)
 
-  ranges-errno-alike : (count z : ℕ) (area : List ℕ) → rangesErrno (t .objects) s count z area ≡ rangesErrno (u .objects) s count z area
+  ranges-errno-alike : (count z : ℕ) (area : List ℕ) → rangesErrnoAt (t .objects) s count z area ≡ rangesErrnoAt (u .objects) s count z area
   unfolding rangesErrno rangesChecks
   ranges-errno-alike count z area = rw (a .space, listed-alike)
 
@@ -146,7 +147,7 @@ module _ (t u : Table) (good-t : good t ≡ true) (good-u : good u ≡ true) (by
     ranges-call-alike : (area : List ℕ) → rangesCall t bytes area ≡ rangesCall u bytes area
     unfolding rangesCall
     ranges-call-alike area =
-        ap (λ (n : ℕ). errnoOr n (rangesErrno (t .objects) (field 4 bytes 4) (field 4 bytes 8) (field 4 bytes 12) area)) (gate-alike t u 0x3B84 bytes good-t good-u)
+        ap (λ (n : ℕ). errnoOr n (rangesErrnoAt (t .objects) (field 4 bytes 4) (field 4 bytes 8) (field 4 bytes 12) area)) (gate-alike t u 0x3B84 bytes good-t good-u)
         ∙ ap (errnoOr (gateErrno u 0x3B84 bytes)) (ranges-errno-alike (field 4 bytes 4) t u a (field 4 bytes 8) (field 4 bytes 12) area)
 
     pub ranges-alike : (area : List ℕ)

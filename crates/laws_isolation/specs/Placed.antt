@@ -13,8 +13,8 @@ use Rattle.placement.specs.Candidates.{permits}
 use Rattle.rules_table.specs.declared.Table.{Table}
 use Rattle.rules_table.specs.Records.{touches}
 use Rattle.rules_table.specs.Spaces.{alignment, reservedOf}
-use Rattle.rules_calls.specs.Landing.{blockedIn, automatic, spotAddress, taken, fixedChecks, automaticChecks, placeChecks, placeAt}
-use Rattle.landing.specs.Landed.{CandidateIn, any-blocked, automatic-lowest}
+use Rattle.rules_calls.specs.Landing.{blockedIn, automatic, spotAddress, taken, fixedChecks, automaticChecks, placeChecks, placeAt, CandidateIn}
+use Rattle.landing.specs.Landed.{any-blocked, automatic-lowest}
 use Rattle.rules_history.specs.Alike.{Alike}
 use Rattle.laws_isolation.specs.Mappings.{touches-alike, taken-alike}
 use Rattle.laws_isolation.specs.Devices.{any-reserved, alignment-alike}

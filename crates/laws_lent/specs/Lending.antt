@@ -9,12 +9,10 @@ use lib.ListN.{length, length-set, length-map, length-replicate, replicate}
 use Rattle.lists.specs.Checks.{first}
 use Rattle.rules_calls.specs.Results.{result}
 use Rattle.rules_table.specs.declared.Object.{Object}
-use Rattle.rules_table.specs.declared.Mapping.{Mapping}
 use Rattle.rules_table.specs.declared.Table.{Table}
 use Rattle.rules_table.specs.Records.{freeObject, objectAt, zeroMapping, freshTable}
 use Rattle.rules_calls.specs.declared.Change.{Change}
 use Rattle.rules_calls.specs.declared.Change.the-variants.{Nothing, Put, Drop, Map, Clear}
-use Rattle.rules_calls.specs.declared.Edit.{Edit}
 use Rattle.rules_calls.specs.declared.Answer.{Answer}
 use Rattle.rules_calls.specs.Edits.{accept, settle, applied}
 use Rattle.rules_calls.specs.Answers.{outcome, idOr, outcomeId}
@@ -23,58 +21,20 @@ use Rattle.rules_calls.specs.Reach.{reachOf}
 use Rattle.rules_calls.specs.declared.Reached.{Reached}
 use Rattle.rules_calls.specs.Bind.{bindCall}
 use Rattle.rules_calls.specs.Gate.{tableErrno}
-use Rattle.rules_calls.specs.Orders.{bindOrder, attachOrder, detachOrder, reachOrder, reachTold, hostEdit}
+use Rattle.rules_calls.specs.Orders.{bindOrder, reachOrder, reachTold, hostEdit}
 use Rattle.host_calls.proofs.Guarding.{bind-value, reach-is}
-use Rattle.rules_calls.specs.Call.{callDone, callEdit}
 use Rattle.iommufd.specs.Deciding.{call-edit}
-use Rattle.rules_history.specs.Calls.{Call, Reply, replyOf, tableAfter, Event, trace, after}
+use Rattle.rules_history.specs.Calls.{Call, replyOf, tableAfter, trace, after}
 use Rattle.rules_history.specs.Ledger.{empty, ledgerOf}
 use Rattle.rules_history.specs.Told.{Demand3}
 use Rattle.laws_history.specs.History.{demand-3}
 use Rattle.rules_table.specs.declared.Head.{Head}
 use Rattle.rules_table.specs.Layout.{encoded, decoded, tableOf, withRecord, freshHead}
 use Rattle.layout.specs.Laws.{decode-encode}
-use Rattle.rules_lent.specs.Lent.{headBy, headAfter, recordsAfter}
+use Rattle.rules_lent.specs.Lent.{headBy, headAfter}
 use Rattle.lent_calls.specs.Applied.{after-edit}
-use Rattle.rules_lent.specs.Entries.{hostResult, toldBy}
-
--- a table in the caller's memory, and the table that it stands for
-pub record Lent : Type 0 where
-  pub head : Head
-  pub records : List Mapping
-
-abbrev pub lentTable : Lent → Table
-lentTable l = tableOf (l .head) (l .records)
-
--- the edit that a call decides
-abbrev pub editOf : Call → Table → Edit
-editOf (Call.Command request bytes area) t = callEdit t request bytes area
-editOf (Call.Bind bitmap r) t = hostEdit t (bindOrder bitmap r)
-editOf (Call.Attach d s) t = hostEdit t (attachOrder d s)
-editOf (Call.Detach d) t = hostEdit t (detachOrder d)
-editOf (Call.Reach d a n write) t = hostEdit t (reachOrder d a n write)
-
--- what an entry leaves, and what it answers
-abbrev pub lentAfter : Call → Lent → Lent
-lentAfter c l = record { head = headAfter (editOf c (lentTable l)) (l .head); records = recordsAfter (editOf c (lentTable l)) (l .records) }
-
-abbrev pub lentReply : Call → Lent → Reply
-lentReply (Call.Command request bytes area) l = record { result = result (callEdit (lentTable l) request bytes area .errno); bytes = callDone (lentTable l) request bytes area .bytes }
-lentReply (Call.Bind bitmap r) l = record { result = hostResult (hostEdit (lentTable l) (bindOrder bitmap r)); bytes = [] }
-lentReply (Call.Attach d s) l = record { result = hostResult (hostEdit (lentTable l) (attachOrder d s)); bytes = [] }
-lentReply (Call.Detach d) l = record { result = hostResult (hostEdit (lentTable l) (detachOrder d)); bytes = [] }
-lentReply (Call.Reach d a n write) l = record { result = toldBy (hostEdit (lentTable l) (reachOrder d a n write)) .result; bytes = [] }
-
-unfoldable pub lentTrace : List Call → Lent → List Event
-lentTrace [] l = []
-lentTrace (c ∷ cs) l = record { call = c; reply = lentReply c l } ∷ lentTrace cs (lentAfter c l)
-
-unfoldable pub lentRun : List Call → Lent → Lent
-lentRun [] l = l
-lentRun (c ∷ cs) l = lentRun cs (lentAfter c l)
-
-abbrev pub lentFresh : ℕ → Lent
-lentFresh limit = record { head = freshHead limit; records = replicate 128 zeroMapping }
+use Rattle.rules_lent.specs.Entries.{hostResult}
+use Rattle.rules_lent.specs.Sequence.{Lent, lentTable, editOf, lentAfter, lentReply, lentTrace, lentRun, lentFresh}
 
 -- ---- one call
 

@@ -18,11 +18,12 @@ use Rattle.rules_table.specs.Records.{zeroMapping, used, ofSpace, extent, touch
 use Rattle.rules_table.specs.Charge.{freeMapping}
 use Rattle.rules_calls.specs.declared.Edit.{Edit}
 use Rattle.rules_calls.specs.Edits.{settle}
-use Rattle.rules_calls.specs.Copy.{sourceOf, sourced, copyChecks, sourceMapping, copyOf, copying, copyEdit}
-use Rattle.rules_calls.specs.Landing.{taken, placeChecks, placeAt}
-use Rattle.landing.specs.Landed.{CandidateIn, Landed, place-landed, automatic-candidate}
-use Rattle.rules_calls.specs.Map.{mapped, mapChecks, foundOf, founding, mapEdit}
+use Rattle.rules_calls.specs.Copy.{sourceOf, sourced, sourceMapping, copyOf, copying, copyEdit}
+use Rattle.rules_calls.specs.Landing.{taken, placeChecks, placeAt, CandidateIn}
+use Rattle.landing.specs.Landed.{Landed, place-landed, automatic-candidate}
+use Rattle.rules_calls.specs.Map.{mapped, foundOf, founding, mapEdit}
 use Rattle.laws_mapping.specs.Passed.{settled-zero, map-passed, copy-passed}
+use Rattle.edits.specs.Numbers.{mapChecksAt, mapEditAt, copyChecksAt, copyEditAt}
 
 -- what holds of an accepted place
 pub record LandedAt (os : List Object) (ms : List Mapping) (s : ℕ) (fixed : Bool) (n asked x : ℕ) : Type 0 where
@@ -57,32 +58,32 @@ told (some i) m e = refl
 settled-value : (n : ℕ) (e : Edit) → n ≡ 0 → settle n e .value ≡ e .value
 settled-value n e h = rw h
 
-module _ (limit : ℕ) (os : List Object) (ms : List Mapping) (flags s z memory n x : ℕ) (e : mapEdit limit os ms flags s z memory n x .errno ≡ 0) where
-  map-checked : first (mapChecks limit os ms flags s z memory n x) 0 ≡ 0
+module _ (limit : ℕ) (os : List Object) (ms : List Mapping) (flags s z memory n x : ℕ) (e : mapEditAt limit os ms flags s z memory n x .errno ≡ 0) where
+  map-checked : first (mapChecksAt limit os ms flags s z memory n x) 0 ≡ 0
   unfolding mapEdit
-  map-checked = settled-zero (first (mapChecks limit os ms flags s z memory n x) 0) (mapped (found (freeMapping ms)) (founding os ms flags s memory n x)) e
+  map-checked = settled-zero (first (mapChecksAt limit os ms flags s z memory n x) 0) (mapped (found (freeMapping ms)) (founding os ms flags s memory n x)) e
 
-  map-told : mapEdit limit os ms flags s z memory n x .value ≡ placeAt os ms s (bit 0 flags) n x
+  map-told : mapEditAt limit os ms flags s z memory n x .value ≡ placeAt os ms s (bit 0 flags) n x
   unfolding mapEdit founding foundOf
   map-told =
-      settled-value (first (mapChecks limit os ms flags s z memory n x) 0) (mapped (found (freeMapping ms)) (founding os ms flags s memory n x)) map-checked
+      settled-value (first (mapChecksAt limit os ms flags s z memory n x) 0) (mapped (found (freeMapping ms)) (founding os ms flags s memory n x)) map-checked
       ∙ told (freeMapping ms) (founding os ms flags s memory n x) (map-passed limit os ms flags s z memory n x map-checked .free)
 
   -- an accepted MAP of n bytes lands at the address that it tells
-  pub map-landed : LandedAt os ms s (bit 0 flags) n x (mapEdit limit os ms flags s z memory n x .value)
+  pub map-landed : LandedAt os ms s (bit 0 flags) n x (mapEditAt limit os ms flags s z memory n x .value)
   map-landed = let p = map-passed limit os ms flags s z memory n x map-checked in rw map-told (landed-at os ms s (bit 0 flags) n x (p .wanted .fixed) (p .placed))
 
-module _ (os : List Object) (ms : List Mapping) (flags target source n x y : ℕ) (e : copyEdit os ms flags target source n x y .errno ≡ 0) where
-  copy-checked : first (copyChecks os ms flags target source n x y) 0 ≡ 0
+module _ (os : List Object) (ms : List Mapping) (flags target source n x y : ℕ) (e : copyEditAt os ms flags target source n x y .errno ≡ 0) where
+  copy-checked : first (copyChecksAt os ms flags target source n x y) 0 ≡ 0
   unfolding copyEdit
-  copy-checked = settled-zero (first (copyChecks os ms flags target source n x y) 0) (mapped (found (freeMapping ms)) (copying os ms (sourceMapping (sourced (sourceOf ms source y n))) flags target n x)) e
+  copy-checked = settled-zero (first (copyChecksAt os ms flags target source n x y) 0) (mapped (found (freeMapping ms)) (copying os ms (sourceMapping (sourced (sourceOf ms source y n))) flags target n x)) e
 
-  copy-told : copyEdit os ms flags target source n x y .value ≡ placeAt os ms target (bit 0 flags) n x
+  copy-told : copyEditAt os ms flags target source n x y .value ≡ placeAt os ms target (bit 0 flags) n x
   unfolding copyEdit copying copyOf
   copy-told =
-      settled-value (first (copyChecks os ms flags target source n x y) 0) (mapped (found (freeMapping ms)) (copying os ms (sourceMapping (sourced (sourceOf ms source y n))) flags target n x)) copy-checked
+      settled-value (first (copyChecksAt os ms flags target source n x y) 0) (mapped (found (freeMapping ms)) (copying os ms (sourceMapping (sourced (sourceOf ms source y n))) flags target n x)) copy-checked
       ∙ told (freeMapping ms) (copying os ms (sourceMapping (sourced (sourceOf ms source y n))) flags target n x) (copy-passed os ms flags target source n x y copy-checked .free)
 
   -- so does an accepted COPY
-  pub copy-landed : LandedAt os ms target (bit 0 flags) n x (copyEdit os ms flags target source n x y .value)
+  pub copy-landed : LandedAt os ms target (bit 0 flags) n x (copyEditAt os ms flags target source n x y .value)
   copy-landed = let p = copy-passed os ms flags target source n x y copy-checked in rw copy-told (landed-at os ms target (bit 0 flags) n x (p .wanted .fixed) (p .placed))

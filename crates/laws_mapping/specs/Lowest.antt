@@ -20,13 +20,14 @@ use Rattle.rules_table.specs.Spaces.{alignment}
 use Rattle.rules_calls.specs.declared.Edit.{Edit}
 use Rattle.rules_calls.specs.Edits.{settle}
 use Rattle.rules_calls.specs.Answers.{outcome}
-use Rattle.rules_calls.specs.Copy.{sourceOf, sourced, copyNumberChecks, sourceChecks, copyDecided, copyCall, copyAnswer, copyBytes}
-use Rattle.landing.specs.Landed.{CandidateIn}
-use Rattle.rules_calls.specs.Map.{mapNumberChecks, mapDecided, mapCall, mapAnswer, mapBytes}
+use Rattle.rules_calls.specs.Copy.{sourceOf, sourced, sourceChecks, copyDecided, copyCall, copyAnswer, copyBytes}
+use Rattle.rules_calls.specs.Landing.{CandidateIn}
+use Rattle.rules_calls.specs.Map.{mapDecided, mapCall, mapAnswer, mapBytes}
 use Rattle.laws_mapping.specs.Landing.{LandedAt, landed-uncovered, map-landed, copy-landed}
 use Rattle.laws_mapping.specs.Nowhere.{map-28, map-28-only, copy-28, copy-28-only}
 use Rattle.rules_calls.specs.Gate.{gateErrno}
 use Rattle.laws_mapping.specs.Accepted.{Accepted, accepted, reply-read}
+use Rattle.edits.specs.Numbers.{mapNumberChecksAt, copyNumberChecksAt}
 
 -- an address that ends by U64MAX fits the field
 fits-field : (x n : ℕ) → x + (n - 1) ≤ U64MAX → x < 2 ^ 64
@@ -61,7 +62,7 @@ module _ (t : Table) (bytes : List ℕ) (ok : mapAnswer t bytes .result ≡ pos 
 
 -- once the table, the opening and the checks on the numbers have passed, and the length is a multiple of the alignment: 28 exactly if there is no candidate
 module _ (t : Table) (bytes : List ℕ) (gate : gateErrno t 0x3B85 bytes ≡ 0)
-    (numbers : first (mapNumberChecks (t .objects) (field 4 bytes 4) (field 4 bytes 8) (field 4 bytes 12) (field 8 bytes 16) (field 8 bytes 24) (field 8 bytes 32)) 0 ≡ 0)
+    (numbers : first (mapNumberChecksAt (t .objects) (field 4 bytes 4) (field 4 bytes 8) (field 4 bytes 12) (field 8 bytes 16) (field 8 bytes 24) (field 8 bytes 32)) 0 ≡ 0)
     (free : bit 0 (field 4 bytes 4) ≡ false) (m : multiple (alignment (t .objects) (field 4 bytes 8)) (field 8 bytes 24) ≡ true) where
   map-open : mapCall t bytes ≡ mapDecided t bytes
   unfolding mapCall
@@ -106,7 +107,7 @@ module _ (t : Table) (bytes : List ℕ) (ok : copyAnswer t bytes .result ≡ pos
   copy-new a i = landed-uncovered (t .objects) (t .mappings) (field 4 bytes 8) (field 8 bytes 16) (field 8 (copyBytes t bytes) 24) a i (copy-lands .landed)
 
 module _ (t : Table) (bytes : List ℕ) (gate : gateErrno t 0x3B83 bytes ≡ 0)
-    (numbers : first (copyNumberChecks (t .objects) (field 4 bytes 4) (field 4 bytes 8) (field 4 bytes 12) (field 8 bytes 16) (field 8 bytes 24) (field 8 bytes 32)) 0 ≡ 0)
+    (numbers : first (copyNumberChecksAt (t .objects) (field 4 bytes 4) (field 4 bytes 8) (field 4 bytes 12) (field 8 bytes 16) (field 8 bytes 24) (field 8 bytes 32)) 0 ≡ 0)
     (sources : first (sourceChecks (field 4 bytes 4) (sourced (sourceOf (t .mappings) (field 4 bytes 12) (field 8 bytes 32) (field 8 bytes 16)))) 0 ≡ 0)
     (free : bit 0 (field 4 bytes 4) ≡ false) (m : multiple (alignment (t .objects) (field 4 bytes 8)) (field 8 bytes 16) ≡ true) where
   copy-open : copyCall t bytes ≡ copyDecided t bytes

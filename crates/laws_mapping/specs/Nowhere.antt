@@ -18,11 +18,12 @@ use Rattle.rules_table.specs.Spaces.{alignment}
 use Rattle.rules_table.specs.Charge.{charge, freeMapping}
 use Rattle.rules_calls.specs.declared.Edit.{Edit}
 use Rattle.rules_calls.specs.Edits.{settle}
-use Rattle.rules_calls.specs.Copy.{sourceOf, sourced, copyNumberChecks, sourceChecks, recordChecks, copyChecks, sourceMapping, copying, copyEdit}
-use Rattle.rules_calls.specs.Landing.{automaticChecks, placeChecks}
-use Rattle.landing.specs.Landed.{CandidateIn, automatic-refuse, none-28, only-28}
-use Rattle.rules_calls.specs.Map.{mapped, mapNumberChecks, roomChecks, mapChecks, founding, mapEdit}
+use Rattle.rules_calls.specs.Copy.{sourceOf, sourced, sourceChecks, recordChecks, sourceMapping, copying, copyChecks, copyEdit}
+use Rattle.rules_calls.specs.Landing.{automaticChecks, placeChecks, CandidateIn}
+use Rattle.landing.specs.Landed.{automatic-refuse, none-28, only-28}
+use Rattle.rules_calls.specs.Map.{mapped, roomChecks, founding, mapEdit, mapChecks}
 use Rattle.laws_mapping.specs.Passed.{map-numbers-refuse, copy-numbers-refuse, source-refuse}
+use Rattle.edits.specs.Numbers.{mapNumberChecksAt, mapChecksAt, mapEditAt, copyNumberChecksAt, copyChecksAt, copyEditAt}
 
 -- no check of the list answers 28
 abbrev Other : List (Check ℕ) → Type 0
@@ -62,52 +63,52 @@ told-28 k e h = rw h
 
 -- ---- MAP
 
-module _ (limit : ℕ) (os : List Object) (ms : List Mapping) (flags s z memory n x : ℕ) (numbers : first (mapNumberChecks os flags s z memory n x) 0 ≡ 0) (free : bit 0 flags ≡ false)
+module _ (limit : ℕ) (os : List Object) (ms : List Mapping) (flags s z memory n x : ℕ) (numbers : first (mapNumberChecksAt os flags s z memory n x) 0 ≡ 0) (free : bit 0 flags ≡ false)
     (m : multiple (alignment os s) n ≡ true) where
   room-other : Other (roomChecks (found (freeMapping ms)) limit (charge ms) (pagesTouched memory n))
   unfolding roomChecks
   room-other = (λ e. omega (arith, e), (λ e. omega (arith, e), tt))
 
-  map-list : mapChecks limit os ms flags s z memory n x ≡ mapNumberChecks os flags s z memory n x ++ (automaticChecks os ms s n ++ roomChecks (found (freeMapping ms)) limit (charge ms) (pagesTouched memory n))
+  map-list : mapChecksAt limit os ms flags s z memory n x ≡ mapNumberChecksAt os flags s z memory n x ++ (automaticChecks os ms s n ++ roomChecks (found (freeMapping ms)) limit (charge ms) (pagesTouched memory n))
   unfolding mapChecks placeChecks
   map-list = rw free
 
-  pub map-28 : ((y : ℕ) → CandidateIn os ms s n y → ⊥) → mapEdit limit os ms flags s z memory n x .errno ≡ 28
+  pub map-28 : ((y : ℕ) → CandidateIn os ms s n y → ⊥) → mapEditAt limit os ms flags s z memory n x .errno ≡ 28
   unfolding mapEdit
   map-28 none =
-      told-28 (first (mapChecks limit os ms flags s z memory n x) 0) (mapped (found (freeMapping ms)) (founding os ms flags s memory n x))
+      told-28 (first (mapChecksAt limit os ms flags s z memory n x) 0) (mapped (found (freeMapping ms)) (founding os ms flags s memory n x))
       (ap (λ (cs : List (Check ℕ)). first cs 0) map-list
-      ∙ refused-28 os ms s n (mapNumberChecks os flags s z memory n x) (roomChecks (found (freeMapping ms)) limit (charge ms) (pagesTouched memory n)) (map-numbers-refuse limit os ms flags s z memory n x) numbers room-other m none)
+      ∙ refused-28 os ms s n (mapNumberChecksAt os flags s z memory n x) (roomChecks (found (freeMapping ms)) limit (charge ms) (pagesTouched memory n)) (map-numbers-refuse limit os ms flags s z memory n x) numbers room-other m none)
 
-  pub map-28-only : mapEdit limit os ms flags s z memory n x .errno ≡ 28 → (y : ℕ) → CandidateIn os ms s n y → ⊥
+  pub map-28-only : mapEditAt limit os ms flags s z memory n x .errno ≡ 28 → (y : ℕ) → CandidateIn os ms s n y → ⊥
   unfolding mapEdit
   map-28-only e =
-      only-if-28 os ms s n (mapNumberChecks os flags s z memory n x) (roomChecks (found (freeMapping ms)) limit (charge ms) (pagesTouched memory n)) (map-numbers-refuse limit os ms flags s z memory n x) numbers room-other m
-      (sym (ap (λ (cs : List (Check ℕ)). first cs 0) map-list) ∙ settled-28 (first (mapChecks limit os ms flags s z memory n x) 0) (found (freeMapping ms)) (founding os ms flags s memory n x) e)
+      only-if-28 os ms s n (mapNumberChecksAt os flags s z memory n x) (roomChecks (found (freeMapping ms)) limit (charge ms) (pagesTouched memory n)) (map-numbers-refuse limit os ms flags s z memory n x) numbers room-other m
+      (sym (ap (λ (cs : List (Check ℕ)). first cs 0) map-list) ∙ settled-28 (first (mapChecksAt limit os ms flags s z memory n x) 0) (found (freeMapping ms)) (founding os ms flags s memory n x) e)
 
 -- ---- COPY
 
-module _ (os : List Object) (ms : List Mapping) (flags target source n x y : ℕ) (numbers : first (copyNumberChecks os flags target source n x y) 0 ≡ 0)
+module _ (os : List Object) (ms : List Mapping) (flags target source n x y : ℕ) (numbers : first (copyNumberChecksAt os flags target source n x y) 0 ≡ 0)
     (sources : first (sourceChecks flags (sourced (sourceOf ms source y n))) 0 ≡ 0) (free : bit 0 flags ≡ false) (m : multiple (alignment os target) n ≡ true) where
   record-other : Other (recordChecks (found (freeMapping ms)))
   unfolding recordChecks
   record-other = (λ e. omega (arith, e), tt)
 
-  copy-list : first (copyChecks os ms flags target source n x y) 0 ≡ first (sourceChecks flags (sourced (sourceOf ms source y n)) ++ (automaticChecks os ms target n ++ recordChecks (found (freeMapping ms)))) 0
+  copy-list : first (copyChecksAt os ms flags target source n x y) 0 ≡ first (sourceChecks flags (sourced (sourceOf ms source y n)) ++ (automaticChecks os ms target n ++ recordChecks (found (freeMapping ms)))) 0
   unfolding copyChecks placeChecks
   copy-list =
       rw free
-      (first-append (copyNumberChecks os flags target source n x y) (sourceChecks flags (sourced (sourceOf ms source y n)) ++ (automaticChecks os ms target n ++ recordChecks (found (freeMapping ms)))) 0
-      ∙ sym (first-goes (copyNumberChecks os flags target source n x y) 0 (first (sourceChecks flags (sourced (sourceOf ms source y n)) ++ (automaticChecks os ms target n ++ recordChecks (found (freeMapping ms)))) 0) (copy-numbers-refuse os ms flags target source n x y) (sym numbers)))
+      (first-append (copyNumberChecksAt os flags target source n x y) (sourceChecks flags (sourced (sourceOf ms source y n)) ++ (automaticChecks os ms target n ++ recordChecks (found (freeMapping ms)))) 0
+      ∙ sym (first-goes (copyNumberChecksAt os flags target source n x y) 0 (first (sourceChecks flags (sourced (sourceOf ms source y n)) ++ (automaticChecks os ms target n ++ recordChecks (found (freeMapping ms)))) 0) (copy-numbers-refuse os ms flags target source n x y) (sym numbers)))
 
-  pub copy-28 : ((a : ℕ) → CandidateIn os ms target n a → ⊥) → copyEdit os ms flags target source n x y .errno ≡ 28
+  pub copy-28 : ((a : ℕ) → CandidateIn os ms target n a → ⊥) → copyEditAt os ms flags target source n x y .errno ≡ 28
   unfolding copyEdit
   copy-28 none =
-      told-28 (first (copyChecks os ms flags target source n x y) 0) (mapped (found (freeMapping ms)) (copying os ms (sourceMapping (sourced (sourceOf ms source y n))) flags target n x))
+      told-28 (first (copyChecksAt os ms flags target source n x y) 0) (mapped (found (freeMapping ms)) (copying os ms (sourceMapping (sourced (sourceOf ms source y n))) flags target n x))
       (copy-list ∙ refused-28 os ms target n (sourceChecks flags (sourced (sourceOf ms source y n))) (recordChecks (found (freeMapping ms))) (source-refuse os ms flags target source n x y) sources record-other m none)
 
-  pub copy-28-only : copyEdit os ms flags target source n x y .errno ≡ 28 → (a : ℕ) → CandidateIn os ms target n a → ⊥
+  pub copy-28-only : copyEditAt os ms flags target source n x y .errno ≡ 28 → (a : ℕ) → CandidateIn os ms target n a → ⊥
   unfolding copyEdit
   copy-28-only e =
       only-if-28 os ms target n (sourceChecks flags (sourced (sourceOf ms source y n))) (recordChecks (found (freeMapping ms))) (source-refuse os ms flags target source n x y) sources record-other m
-      (sym copy-list ∙ settled-28 (first (copyChecks os ms flags target source n x y) 0) (found (freeMapping ms)) (copying os ms (sourceMapping (sourced (sourceOf ms source y n))) flags target n x) e)
+      (sym copy-list ∙ settled-28 (first (copyChecksAt os ms flags target source n x y) 0) (found (freeMapping ms)) (copying os ms (sourceMapping (sourced (sourceOf ms source y n))) flags target n x) e)

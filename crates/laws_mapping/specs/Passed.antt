@@ -20,10 +20,11 @@ use Rattle.rules_table.specs.Records.{spaceAt, within, cutBy}
 use Rattle.rules_table.specs.Charge.{charge, freeMapping}
 use Rattle.rules_calls.specs.declared.Edit.{Edit}
 use Rattle.rules_calls.specs.Edits.{settle}
-use Rattle.rules_calls.specs.Copy.{sourceOf, sourced, sourceMapping, isMissing, copyNumberChecks, sourceChecks, recordChecks, copyChecks}
+use Rattle.rules_calls.specs.Copy.{sourceOf, sourced, sourceMapping, isMissing, sourceChecks, recordChecks, copyNumberChecks, copyChecks}
 use Rattle.rules_calls.specs.Landing.{fixedChecks, automaticChecks, placeChecks}
-use Rattle.rules_calls.specs.Map.{noRight, wrongLength, fixedPasses, mapNumberChecks, roomChecks, mapChecks}
-use Rattle.rules_calls.specs.Unmap.{asksAll, rangeAsked, unmapNumberChecks, removalBy, removalChecks, unmapChecks}
+use Rattle.rules_calls.specs.Map.{noRight, wrongLength, fixedPasses, roomChecks, mapChecks, mapNumberChecks}
+use Rattle.rules_calls.specs.Unmap.{asksAll, rangeAsked, removalBy, removalChecks, unmapChecks, unmapNumberChecks}
+use Rattle.edits.specs.Numbers.{mapNumberChecksAt, mapChecksAt, copyNumberChecksAt, copyChecksAt, unmapNumberChecksAt, unmapChecksAt}
 
 -- where two lists of checks passed one after the other, each passed
 pub both-passed : (cs ds : List (Check ℕ)) → Refusals cs 0 → first (cs ++ ds) 0 ≡ 0 → (first cs 0 ≡ 0) × (first ds 0 ≡ 0)
@@ -77,7 +78,7 @@ pub record MapPassed (limit : ℕ) (os : List Object) (ms : List Mapping) (flags
   pub room : charge ms + pagesTouched memory n ≤ limit
 
 module _ (limit : ℕ) (os : List Object) (ms : List Mapping) (flags s z memory n x : ℕ) where
-  pub map-numbers-refuse : Refusals (mapNumberChecks os flags s z memory n x) 0
+  pub map-numbers-refuse : Refusals (mapNumberChecksAt os flags s z memory n x) 0
   unfolding mapNumberChecks
   map-numbers-refuse = (no 94, (no 21, (no 21, (no 74, (no 74, (no 1, tt))))))
 
@@ -86,14 +87,14 @@ module _ (limit : ℕ) (os : List Object) (ms : List Mapping) (flags s z memory 
   room-refuse = (no 11, (no 11, tt))
 
   -- the check on the numbers at place i did not fire
-  map-number : first (mapNumberChecks os flags s z memory n x) 0 ≡ 0 → (i : ℕ) → i < 6 → getD (mapNumberChecks os flags s z memory n x) i (when false 0) .fires ≡ false
+  map-number : first (mapNumberChecksAt os flags s z memory n x) 0 ≡ 0 → (i : ℕ) → i < 6 → getD (mapNumberChecksAt os flags s z memory n x) i (when false 0) .fires ≡ false
   unfolding mapNumberChecks
-  map-number e i h = passed (mapNumberChecks os flags s z memory n x) 0 (when false 0) map-numbers-refuse e i h
+  map-number e i h = passed (mapNumberChecksAt os flags s z memory n x) 0 (when false 0) map-numbers-refuse e i h
 
-  pub map-passed : first (mapChecks limit os ms flags s z memory n x) 0 ≡ 0 → MapPassed limit os ms flags s memory n x
+  pub map-passed : first (mapChecksAt limit os ms flags s z memory n x) 0 ≡ 0 → MapPassed limit os ms flags s memory n x
   unfolding mapChecks mapNumberChecks roomChecks
   map-passed e =
-      let p = both-passed (mapNumberChecks os flags s z memory n x) (placeChecks os ms s (bit 0 flags) n x ++ roomChecks (found (freeMapping ms)) limit (charge ms) (pagesTouched memory n)) map-numbers-refuse e in
+      let p = both-passed (mapNumberChecksAt os flags s z memory n x) (placeChecks os ms s (bit 0 flags) n x ++ roomChecks (found (freeMapping ms)) limit (charge ms) (pagesTouched memory n)) map-numbers-refuse e in
       let q = both-passed (placeChecks os ms s (bit 0 flags) n x) (roomChecks (found (freeMapping ms)) limit (charge ms) (pagesTouched memory n)) (place-refuse os ms s (bit 0 flags) n x) (p .1) in
       record {
         wanted = wanted flags n x (map-number (p .0) 1 (omega arith)) (map-number (p .0) 2 (omega arith)) (map-number (p .0) 4 (omega arith));
@@ -116,7 +117,7 @@ pub record CopyPassed (os : List Object) (ms : List Mapping) (flags target sourc
   pub free : isFound (found (freeMapping ms)) ≡ true
 
 module _ (os : List Object) (ms : List Mapping) (flags target source n x y : ℕ) where
-  pub copy-numbers-refuse : Refusals (copyNumberChecks os flags target source n x y) 0
+  pub copy-numbers-refuse : Refusals (copyNumberChecksAt os flags target source n x y) 0
   unfolding copyNumberChecks
   copy-numbers-refuse = (no 94, (no 21, (no 21, (no 74, (no 74, (no 1, (no 1, tt)))))))
 
@@ -128,17 +129,17 @@ module _ (os : List Object) (ms : List Mapping) (flags target source n x y : ℕ
   unfolding recordChecks
   record-refuse = (no 11, tt)
 
-  copy-number : first (copyNumberChecks os flags target source n x y) 0 ≡ 0 → (i : ℕ) → i < 7 → getD (copyNumberChecks os flags target source n x y) i (when false 0) .fires ≡ false
+  copy-number : first (copyNumberChecksAt os flags target source n x y) 0 ≡ 0 → (i : ℕ) → i < 7 → getD (copyNumberChecksAt os flags target source n x y) i (when false 0) .fires ≡ false
   unfolding copyNumberChecks
-  copy-number e i h = passed (copyNumberChecks os flags target source n x y) 0 (when false 0) copy-numbers-refuse e i h
+  copy-number e i h = passed (copyNumberChecksAt os flags target source n x y) 0 (when false 0) copy-numbers-refuse e i h
 
-  pub copy-passed : first (copyChecks os ms flags target source n x y) 0 ≡ 0 → CopyPassed os ms flags target source n x y
+  pub copy-passed : first (copyChecksAt os ms flags target source n x y) 0 ≡ 0 → CopyPassed os ms flags target source n x y
   unfolding copyChecks copyNumberChecks sourceChecks recordChecks
   copy-passed e =
       let found-o = sourced (sourceOf ms source y n) in
       let places = placeChecks os ms target (bit 0 flags) n x in
       let records = recordChecks (found (freeMapping ms)) in
-      let p = both-passed (copyNumberChecks os flags target source n x y) (sourceChecks flags found-o ++ (places ++ records)) copy-numbers-refuse e in
+      let p = both-passed (copyNumberChecksAt os flags target source n x y) (sourceChecks flags found-o ++ (places ++ records)) copy-numbers-refuse e in
       let q = both-passed (sourceChecks flags found-o) (places ++ records) source-refuse (p .1) in
       let r = both-passed places records (place-refuse os ms target (bit 0 flags) n x) (q .1) in
       let denied : (bit 1 flags && not (eqb (sourceMapping found-o .founder) 1)) ≡ false = passed (sourceChecks flags found-o) 0 (when false 0) source-refuse (q .0) 1 (omega arith) in
@@ -162,7 +163,7 @@ pub record UnmapPassed (os : List Object) (ms : List Mapping) (s a n : ℕ) : Ty
   pub inside : asksAll a n ≡ false → any (within s (rangeAsked a n)) ms ≡ true
 
 module _ (os : List Object) (ms : List Mapping) (s a n : ℕ) where
-  pub unmap-numbers-refuse : Refusals (unmapNumberChecks os s a n) 0
+  pub unmap-numbers-refuse : Refusals (unmapNumberChecksAt os s a n) 0
   unfolding unmapNumberChecks
   unmap-numbers-refuse = (no 21, (no 74, (no 1, tt)))
 
@@ -170,17 +171,17 @@ module _ (os : List Object) (ms : List Mapping) (s a n : ℕ) where
   unfolding removalChecks removalBy
   removal-refuse = (no 1, (no 1, tt))
 
-  pub unmap-passed : first (unmapChecks os ms s a n) 0 ≡ 0 → UnmapPassed os ms s a n
+  pub unmap-passed : first (unmapChecksAt os ms s a n) 0 ≡ 0 → UnmapPassed os ms s a n
   unfolding unmapChecks unmapNumberChecks removalChecks removalBy
   unmap-passed e =
-      let p = both-passed (unmapNumberChecks os s a n) (removalChecks ms s a n) unmap-numbers-refuse e in
-      let zero : eqb n 0 ≡ false = passed (unmapNumberChecks os s a n) 0 (when false 0) unmap-numbers-refuse (p .0) 0 (omega arith) in
+      let p = both-passed (unmapNumberChecksAt os s a n) (removalChecks ms s a n) unmap-numbers-refuse e in
+      let zero : eqb n 0 ≡ false = passed (unmapNumberChecksAt os s a n) 0 (when false 0) unmap-numbers-refuse (p .0) 0 (omega arith) in
       let ne = eqb-false n 0 zero in
       let none : (not (asksAll a n) && not (any (within s (rangeAsked a n)) ms)) ≡ false = passed (removalChecks ms s a n) 0 (when false 0) removal-refuse (p .1) 1 (omega arith) in
       record {
         some = omega (arith, ne);
-        ends = passed (unmapNumberChecks os s a n) 0 (when false 0) unmap-numbers-refuse (p .0) 1 (omega arith);
-        space = not-false (spaceAt os s) (passed (unmapNumberChecks os s a n) 0 (when false 0) unmap-numbers-refuse (p .0) 2 (omega arith));
+        ends = passed (unmapNumberChecksAt os s a n) 0 (when false 0) unmap-numbers-refuse (p .0) 1 (omega arith);
+        space = not-false (spaceAt os s) (passed (unmapNumberChecksAt os s a n) 0 (when false 0) unmap-numbers-refuse (p .0) 2 (omega arith));
         uncut = passed (removalChecks ms s a n) 0 (when false 0) removal-refuse (p .1) 0 (omega arith);
         inside = λ b. not-false (any (within s (rangeAsked a n)) ms) (sym (rw b) ∙ none);
       }

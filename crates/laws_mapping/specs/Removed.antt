@@ -19,9 +19,10 @@ use Rattle.rules_table.specs.Records.{zeroMapping, freeObject, spaceAt, ofSpace
 use Rattle.table.specs.Cleared.{release-true, release-false}
 use Rattle.rules_calls.specs.declared.Change.the-variants.{Clear}
 use Rattle.rules_calls.specs.Edits.{accept, clearInside, applied}
-use Rattle.rules_calls.specs.Unmap.{removedBytes, rangeAsked, unmapChecks, unmapEdit}
+use Rattle.rules_calls.specs.Unmap.{removedBytes, rangeAsked, unmapEdit}
 use Rattle.edits.specs.Settled.{space-id}
 use Rattle.laws_mapping.specs.Passed.{settled-zero, unmap-passed}
+use Rattle.edits.specs.Numbers.{unmapChecksAt, unmapEditAt}
 
 -- the bytes of all records: a released one has none
 unfoldable pub mappedBytes : List Mapping → ℕ
@@ -70,22 +71,22 @@ space-some os s e = space-id os s e
 
 -- ---- an accepted UNMAP
 
-module _ (t : Table) (s a n : ℕ) (e : unmapEdit (t .objects) (t .mappings) s a n .errno ≡ 0) where
-  checked : first (unmapChecks (t .objects) (t .mappings) s a n) 0 ≡ 0
+module _ (t : Table) (s a n : ℕ) (e : unmapEditAt (t .objects) (t .mappings) s a n .errno ≡ 0) where
+  checked : first (unmapChecksAt (t .objects) (t .mappings) s a n) 0 ≡ 0
   unfolding unmapEdit
-  checked = settled-zero (first (unmapChecks (t .objects) (t .mappings) s a n) 0) (accept (removedBytes s (rangeAsked a n) (t .mappings)) (Clear s (rangeAsked a n)) freeObject) e
+  checked = settled-zero (first (unmapChecksAt (t .objects) (t .mappings) s a n) 0) (accept (removedBytes s (rangeAsked a n) (t .mappings)) (Clear s (rangeAsked a n)) freeObject) e
 
-  taken : unmapEdit (t .objects) (t .mappings) s a n ≡ accept (removedBytes s (rangeAsked a n) (t .mappings)) (Clear s (rangeAsked a n)) freeObject
+  taken : unmapEditAt (t .objects) (t .mappings) s a n ≡ accept (removedBytes s (rangeAsked a n) (t .mappings)) (Clear s (rangeAsked a n)) freeObject
   unfolding unmapEdit
   taken = rw checked
 
   -- the bytes told are those that the records lose
-  pub unmap-told : mappedBytes (t .mappings) ≡ mappedBytes (applied t (unmapEdit (t .objects) (t .mappings) s a n) .mappings) + unmapEdit (t .objects) (t .mappings) s a n .value
+  pub unmap-told : mappedBytes (t .mappings) ≡ mappedBytes (applied t (unmapEditAt (t .objects) (t .mappings) s a n) .mappings) + unmapEditAt (t .objects) (t .mappings) s a n .value
   unfolding applied clearInside removedBytes
   unmap-told = rw taken (released-bytes (within s (rangeAsked a n)) (t .mappings))
 
   -- no mapping that is left shares an address with the range asked
-  pub unmap-left : any (touches s (rangeAsked a n)) (applied t (unmapEdit (t .objects) (t .mappings) s a n) .mappings) ≡ false
+  pub unmap-left : any (touches s (rangeAsked a n)) (applied t (unmapEditAt (t .objects) (t .mappings) s a n) .mappings) ≡ false
   unfolding applied clearInside
   unmap-left =
       let p = unmap-passed (t .objects) (t .mappings) s a n checked in

@@ -21,10 +21,11 @@ use Rattle.rules_table.specs.Fits.{bindChecks}
 use Rattle.rules_calls.specs.Bind.{newDevice, bindEdit, bindCall, bindRule}
 use Rattle.rules_calls.specs.Attach.{attachedObject, looseObject, attachChecks, attachEdit, detachChecks, detachEdit, attachCall, detachCall}
 use Rattle.rules_calls.specs.Objects.{allocChecks, allocEdit, destroyChecks, removal, destroyEdit, allocCall, allocAnswer, allocBytes, destroyAnswer}
-use Rattle.rules_calls.specs.Allow.{areaList, withAllow, allowChecks, allowEdit, allowAnswer}
+use Rattle.rules_calls.specs.Allow.{areaList, withAllow, allowAnswer, allowEdit}
 use Rattle.rules_calls.specs.Ranges.{repliesTo, rangesCall, rangesResult, rangesReply, rangesWritten}
 use Rattle.rules_calls.specs.Gate.{gateErrno, tableErrno}
 use Rattle.laws_refusal.specs.Edits.{Silent, silent-accept, silent-settle, silent-placed, outcome-refused, outcomeId-refused, errno-of}
+use Rattle.edits.specs.Numbers.{allowChecksAt}
 
 module _ (t : Table) (bytes : List ℕ) where
   alloc-silent : Silent (allocCall t bytes)
@@ -43,7 +44,7 @@ module _ (t : Table) (bytes : List ℕ) where
   unfolding allowAnswer allowEdit
   allow-refused area k r =
       outcome-refused t _
-      (silent-settle (gateErrno t 0x3B82 bytes) _ (silent-settle (first (allowChecks (t .objects) (field 4 bytes 4) (field 4 bytes 8) (field 4 bytes 12) area) 0) _ (silent-accept 0 (Put (field 4 bytes 4 - 1)) (withAllow (objectAt (t .objects) (field 4 bytes 4)) (areaList (field 4 bytes 8) area)))))
+      (silent-settle (gateErrno t 0x3B82 bytes) _ (silent-settle (first (allowChecksAt (t .objects) (field 4 bytes 4) (field 4 bytes 8) (field 4 bytes 12) area) 0) _ (silent-accept 0 (Put (field 4 bytes 4 - 1)) (withAllow (objectAt (t .objects) (field 4 bytes 4)) (areaList (field 4 bytes 8) area)))))
       k r
 
   -- IOVA_RANGES writes where it answers 0 or 90, and nowhere else

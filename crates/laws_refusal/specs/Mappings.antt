@@ -16,11 +16,12 @@ use Rattle.rules_table.specs.Charge.{freeMapping}
 use Rattle.rules_calls.specs.declared.Change.the-variants.{Clear}
 use Rattle.rules_calls.specs.declared.Edit.{Edit}
 use Rattle.rules_calls.specs.Answers.{outcome, replied}
-use Rattle.rules_calls.specs.Copy.{sourceOf, sourced, copyChecks, sourceMapping, copying, copyEdit, copyDecided, copyCall, copyAnswer, copyBytes}
-use Rattle.rules_calls.specs.Unmap.{removedBytes, rangeAsked, unmapChecks, unmapEdit, unmapDecided, unmapCall, unmapAnswer, unmapBytes}
+use Rattle.rules_calls.specs.Copy.{sourceOf, sourced, sourceMapping, copying, copyDecided, copyCall, copyAnswer, copyBytes, copyEdit}
+use Rattle.rules_calls.specs.Unmap.{removedBytes, rangeAsked, unmapDecided, unmapCall, unmapAnswer, unmapBytes, unmapEdit}
 use Rattle.rules_calls.specs.Gate.{gateErrno}
-use Rattle.rules_calls.specs.Map.{mapped, mapChecks, founding, mapEdit, mapDecided, mapCall, mapAnswer, mapBytes}
+use Rattle.rules_calls.specs.Map.{mapped, founding, mapDecided, mapCall, mapAnswer, mapBytes, mapEdit}
 use Rattle.laws_refusal.specs.Edits.{Silent, silent-accept, silent-settle, outcome-refused, errno-of}
+use Rattle.edits.specs.Numbers.{mapChecksAt, copyChecksAt, unmapChecksAt}
 
 silent-mapped : (f : Found) (m : Mapping) → Silent (mapped f m)
 silent-mapped Nothing m = λ h. refl
@@ -36,7 +37,7 @@ module _ (t : Table) (bytes : List ℕ) (k : ℕ) where
   unfolding mapCall mapDecided mapEdit
   map-silent =
       silent-settle (gateErrno t 0x3B85 bytes) _
-      (silent-settle (first (mapChecks (t .limit) (t .objects) (t .mappings) (field 4 bytes 4) (field 4 bytes 8) (field 4 bytes 12) (field 8 bytes 16) (field 8 bytes 24) (field 8 bytes 32)) 0) _
+      (silent-settle (first (mapChecksAt (t .limit) (t .objects) (t .mappings) (field 4 bytes 4) (field 4 bytes 8) (field 4 bytes 12) (field 8 bytes 16) (field 8 bytes 24) (field 8 bytes 32)) 0) _
       (silent-mapped (found (freeMapping (t .mappings))) (founding (t .objects) (t .mappings) (field 4 bytes 4) (field 4 bytes 8) (field 8 bytes 16) (field 8 bytes 24) (field 8 bytes 32))))
 
   pub map-refused : mapAnswer t bytes .result ≡ negsuc k → (mapAnswer t bytes .table ≡ t) × (mapBytes t bytes ≡ bytes)
@@ -47,7 +48,7 @@ module _ (t : Table) (bytes : List ℕ) (k : ℕ) where
   unfolding copyCall copyDecided copyEdit
   copy-silent =
       silent-settle (gateErrno t 0x3B83 bytes) _
-      (silent-settle (first (copyChecks (t .objects) (t .mappings) (field 4 bytes 4) (field 4 bytes 8) (field 4 bytes 12) (field 8 bytes 16) (field 8 bytes 24) (field 8 bytes 32)) 0) _
+      (silent-settle (first (copyChecksAt (t .objects) (t .mappings) (field 4 bytes 4) (field 4 bytes 8) (field 4 bytes 12) (field 8 bytes 16) (field 8 bytes 24) (field 8 bytes 32)) 0) _
       (silent-mapped (found (freeMapping (t .mappings)))
       (copying (t .objects) (t .mappings) (sourceMapping (sourced (sourceOf (t .mappings) (field 4 bytes 12) (field 8 bytes 32) (field 8 bytes 16)))) (field 4 bytes 4) (field 4 bytes 8) (field 8 bytes 16) (field 8 bytes 24))))
 
@@ -59,7 +60,7 @@ module _ (t : Table) (bytes : List ℕ) (k : ℕ) where
   unfolding unmapCall unmapDecided unmapEdit
   unmap-silent =
       silent-settle (gateErrno t 0x3B86 bytes) _
-      (silent-settle (first (unmapChecks (t .objects) (t .mappings) (field 4 bytes 4) (field 8 bytes 8) (field 8 bytes 16)) 0) _
+      (silent-settle (first (unmapChecksAt (t .objects) (t .mappings) (field 4 bytes 4) (field 8 bytes 8) (field 8 bytes 16)) 0) _
       (silent-accept (removedBytes (field 4 bytes 4) (rangeAsked (field 8 bytes 8) (field 8 bytes 16)) (t .mappings)) (Clear (field 4 bytes 4) (rangeAsked (field 8 bytes 8) (field 8 bytes 16))) freeObject))
 
   pub unmap-refused : unmapAnswer t bytes .result ≡ negsuc k → (unmapAnswer t bytes .table ≡ t) × (unmapBytes t bytes ≡ bytes)

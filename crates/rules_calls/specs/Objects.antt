@@ -1,14 +1,14 @@
 -- IOAS_ALLOC: flags 95; no record 12. DESTROY: no object 2; an attached device, or a space with one, 16; a space's mappings go with it.
 use Prim.Native.Nat.{ℕ, _-_}
 use mathlib.Core.Bool.{Bool, not, _||_}
-use mathlib.Core.List.{List, [], _∷_}
+use mathlib.Core.List.{List, [], _∷_, map}
 use lib.Dec.{eqb}
-use Rattle.lists.specs.Search.{any}
+use Rattle.lists.specs.Search.{any, seek}
 use Rattle.lists.specs.Checks.{Check, when, first}
 use Rattle.rules_table.specs.declared.Kind.{Kind}
 use Rattle.rules_table.specs.declared.Kind.the-variants.{Free, Space, Device}
 use Rattle.rules_table.specs.declared.Object.{Object}
-use Rattle.rules_table.specs.Records.{freeObject, newSpace, objectAt, isFree, isAttached, attachedTo}
+use Rattle.rules_table.specs.Records.{freeObject, newSpace, objectAt, isFree, isAttached, attachedTo, noReserved, noAllowed}
 use Rattle.rules_table.specs.Charge.{freeRecord}
 use Rattle.rules_calls.specs.declared.Change.{Change}
 use Rattle.rules_calls.specs.declared.Change.the-variants.{Put, Drop}
@@ -18,7 +18,12 @@ use Rattle.wire.specs.Fields.{field}
 use Rattle.rules_table.specs.declared.Table.{Table}
 use Rattle.rules_calls.specs.declared.Answer.{Answer}
 use Rattle.rules_calls.specs.Answers.{outcome, replied}
+use Rattle.rules_calls.specs.declared.Command.the-variants as Named
+use Rattle.rules_calls.specs.Requests.{number}
 use Rattle.rules_calls.specs.Gate.{gateErrno}
+use mathlib.Core.Path.{_≡_, refl}
+use Rattle.rules_table.specs.declared.Attachment.{Attachment}
+use Rattle.rules_table.specs.declared.Attachment.the-variants.{Loose, Attached}
 
 unfoldable pub allocChecks : List Object → ℕ → List (Check ℕ)
 allocChecks os flags = when (not (eqb flags 0)) 95 ∷ noRecord (freeRecord os) ∷ []
@@ -45,7 +50,7 @@ destroyEdit os id = settle (first (destroyChecks os id) 0) (accept 0 (removal (o
 -- ---- the commands, for any table and any bytes. IOAS_ALLOC: size, flags, out id
 
 unfoldable pub allocCall : Table → List ℕ → Edit
-allocCall t bytes = settle (gateErrno t 0x3B81 bytes) (allocEdit (t .objects) (field 4 bytes 4))
+allocCall t bytes = settle (gateErrno t (number Named.IoasAlloc) bytes) (allocEdit (t .objects) (field 4 bytes 4))
 
 unfoldable pub allocAnswer : Table → List ℕ → Answer
 allocAnswer t bytes = outcome t (allocCall t bytes)
@@ -56,7 +61,58 @@ allocBytes t bytes = replied 4 8 (allocCall t bytes .errno) (allocCall t bytes .
 
 -- DESTROY: size, id
 abbrev pub destroyCall : Table → List ℕ → Edit
-destroyCall t bytes = settle (gateErrno t 0x3B80 bytes) (destroyEdit (t .objects) (field 4 bytes 4))
+destroyCall t bytes = settle (gateErrno t (number Named.Destroy) bytes) (destroyEdit (t .objects) (field 4 bytes 4))
 
 unfoldable pub destroyAnswer : Table → List ℕ → Answer
 destroyAnswer t bytes = outcome t (destroyCall t bytes)
+
+-- ---- examples: to unfold `makes` is to unfold all that it lists
+
+unfoldable pub makes : List Object → ℕ → Edit
+unfolding allocEdit allocChecks freeRecord seek first
+makes os flags = allocEdit os flags
+
+unfoldable pub destroys : List Object → ℕ → Edit
+unfolding destroyEdit destroyChecks inUse objectAt any first
+destroys os id = destroyEdit os id
+
+-- the second record is the lowest free one, its id 2
+alloc-lowest : allocEdit (newSpace ∷ freeObject ∷ freeObject ∷ []) 0 ≡ accept 2 (Put 1) newSpace
+unfolding makes
+alloc-lowest = refl
+
+-- no record; flags; both
+alloc-refused : (allocEdit (newSpace ∷ []) 0 .errno ∷ allocEdit (freeObject ∷ []) 1 .errno ∷ allocEdit (newSpace ∷ []) 1 .errno ∷ []) ≡ (12 ∷ 95 ∷ 95 ∷ [])
+unfolding makes
+alloc-refused = refl
+
+-- spaces 1 and 2 and device 3
+abbrev device : Attachment → Object
+device a = record { kind = Device a; bitmap = 0x1000; reserved = noReserved; allow = noAllowed }
+
+abbrev objectsWith : Attachment → List Object
+objectsWith a = newSpace ∷ newSpace ∷ device a ∷ freeObject ∷ []
+
+-- the device is attached to space 2: these two are in use, a released record and ids that no record has are no object
+destroy-attached : map (λ (id : ℕ). destroyEdit (objectsWith (Attached 2)) id .errno) (0 ∷ 1 ∷ 2 ∷ 3 ∷ 4 ∷ 5 ∷ []) ≡ (2 ∷ 0 ∷ 16 ∷ 16 ∷ 2 ∷ 2 ∷ [])
+unfolding destroys
+destroy-attached = refl
+
+-- it is loose
+destroy-loose : map (λ (id : ℕ). destroyEdit (objectsWith Loose) id .errno) (1 ∷ 2 ∷ 3 ∷ []) ≡ (0 ∷ 0 ∷ 0 ∷ [])
+unfolding destroys
+destroy-loose = refl
+
+-- an id that is no object, which a device names as its space: no object comes first
+destroy-order : destroyEdit (objectsWith (Attached 4)) 4 .errno ≡ 2
+unfolding destroys
+destroy-order = refl
+
+-- a space goes with its mappings, a device alone
+destroy-space : destroyEdit (objectsWith (Attached 2)) 1 ≡ accept 0 (Drop 0) freeObject
+unfolding destroys
+destroy-space = refl
+
+destroy-device : destroyEdit (objectsWith Loose) 3 ≡ accept 0 (Put 2) freeObject
+unfolding destroys
+destroy-device = refl

@@ -21,23 +21,36 @@ use Rattle.rules_table.specs.Records.{noReserved, noAllowed, spaceAt}
 use Rattle.rules_table.specs.Spaces.{alignment, reservedFor, reservedOf}
 use Rattle.rules_calls.specs.Results.{result}
 use Rattle.rules_table.specs.declared.Table.{Table}
+use Rattle.rules_calls.specs.declared.Command.the-variants as Named
+use Rattle.rules_calls.specs.Requests.{number}
 use Rattle.rules_calls.specs.Gate.{gateErrno}
+
+-- ---- the fields
+pub record RangesFields : Type 0 where
+  pub space : ℕ
+  pub count : ℕ
+  pub mustBeZero : ℕ
+
+-- size, space, count, reserved, pointer, alignment
+abbrev pub rangesFields : List ℕ → RangesFields
+rangesFields bytes = record { space = field 4 bytes 4; count = field 4 bytes 8; mustBeZero = field 4 bytes 12 }
+
+-- ---- the rule
 
 -- what a space may use: all that no attached device reserves
 unfoldable pub freeOf : List Object → ℕ → List Range
 freeOf os s = freeRanges (reservedOf os s)
 
-unfoldable pub rangesChecks : List Object → ℕ → ℕ → ℕ → ℕ → List (Check ℕ)
-rangesChecks os space count mustBeZero room =
-    when (not (eqb mustBeZero 0)) 95
-    ∷ when (not (spaceAt os space)) 2
-    ∷ when (ltb room (16 * count)) 14
+unfoldable pub rangesChecks : List Object → RangesFields → ℕ → List (Check ℕ)
+rangesChecks os c room =
+    when (not (eqb (c .mustBeZero) 0)) 95
+    ∷ when (not (spaceAt os (c .space))) 2
+    ∷ when (ltb room (16 * c .count)) 14
     ∷ []
 
 -- 0 and 90 write the reply, the others write nothing
-unfoldable pub rangesErrno : List Object → ℕ → ℕ → ℕ → List ℕ → ℕ
-rangesErrno os space count mustBeZero area =
-    first (rangesChecks os space count mustBeZero (length area)) (cond (ltb count (length (freeOf os space))) 90 0)
+unfoldable pub rangesErrno : List Object → RangesFields → List ℕ → ℕ
+rangesErrno os c area = first (rangesChecks os c (length area)) (cond (ltb (c .count) (length (freeOf os (c .space)))) 90 0)
 
 abbrev pub repliesTo : ℕ → Bool
 repliesTo n = cond (eqb n 0) true (eqb n 90)
@@ -49,23 +62,23 @@ rangesBytes os space bytes = put 8 (put 4 bytes 8 (length (freeOf os space))) 24
 unfoldable pub rangesArea : List Object → ℕ → ℕ → List ℕ → List ℕ
 rangesArea os space count area = putRanges 0 (take count (freeOf os space)) area
 
--- ---- the command, for any table and any bytes: size, space, count, reserved, pointer, alignment
+-- ---- the command, for any table and any bytes
 
 abbrev pub errnoOr : ℕ → ℕ → ℕ
 errnoOr zero n = n
 errnoOr (suc e) n = suc e
 
 unfoldable pub rangesCall : Table → List ℕ → List ℕ → ℕ
-rangesCall t bytes area = errnoOr (gateErrno t 0x3B84 bytes) (rangesErrno (t .objects) (field 4 bytes 4) (field 4 bytes 8) (field 4 bytes 12) area)
+rangesCall t bytes area = errnoOr (gateErrno t (number Named.IovaRanges) bytes) (rangesErrno (t .objects) (rangesFields bytes) area)
 
 unfoldable pub rangesResult : Table → List ℕ → List ℕ → ℤ
 rangesResult t bytes area = result (rangesCall t bytes area)
 
 unfoldable pub rangesReply : Table → List ℕ → List ℕ → List ℕ
-rangesReply t bytes area = cond (repliesTo (rangesCall t bytes area)) (rangesBytes (t .objects) (field 4 bytes 4) bytes) bytes
+rangesReply t bytes area = cond (repliesTo (rangesCall t bytes area)) (rangesBytes (t .objects) (rangesFields bytes .space) bytes) bytes
 
 unfoldable pub rangesWritten : Table → List ℕ → List ℕ → List ℕ
-rangesWritten t bytes area = cond (repliesTo (rangesCall t bytes area)) (rangesArea (t .objects) (field 4 bytes 4) (field 4 bytes 8) area) area
+rangesWritten t bytes area = cond (repliesTo (rangesCall t bytes area)) (rangesArea (t .objects) (rangesFields bytes .space) (rangesFields bytes .count) area) area
 
 -- ---- examples
 

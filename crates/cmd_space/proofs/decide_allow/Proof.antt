@@ -2,11 +2,11 @@
 use mathlib.Core.Path.{sym, _∙_}
 use mathlib.Core.List.{[], _∷_}
 use Rattle.edits.specs.Settled.{settle-refused, settle-taken}
-use Rattle.rules_calls.specs.Allow.{allowEdit}
 use Rattle.cmd_space.proofs.Listing.{known-at, known-alone, by-numbers, by-list, area-holds, allow-edit}
 use borrow.Author.Needs.{needs}
 use Rattle.cmd_space.proofs.decide_allow.Statement.{statement}
 use Rattle.cmd_space.proofs.decide_allow.Tie as tie
+use Rattle.rules_calls.specs.Allow.{allowEdit}
 
 is-space-requires : tie.Need-is-space-requires
 is-space-requires c κs = search needs

@@ -2,10 +2,10 @@
 use mathlib.Core.Path.{refl, ap}
 use mathlib.Core.Bool.{Bool, not}
 use Rattle.edits.specs.Settled.{checked, checked-last}
-use Rattle.rules_calls.specs.Ranges.{rangesChecks}
 use borrow.Author.Needs.{needs}
 use Rattle.cmd_space.proofs.ranges_errno.Statement.{statement}
 use Rattle.cmd_space.proofs.ranges_errno.Tie as tie
+use Rattle.rules_calls.specs.Ranges.{rangesChecks}
 
 mul-refuse-if : tie.Need-mul-refuse-if
 mul-refuse-if c = search needs

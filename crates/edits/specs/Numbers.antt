@@ -1,0 +1,69 @@
+-- The rules of five commands by the numbers of their fields, as the laws and the code hold them: each is the rule on the record of these numbers.
+use Prim.Native.Nat.{ℕ}
+use mathlib.Core.List.{List}
+use Rattle.lists.specs.Checks.{Check}
+use Rattle.rules_table.specs.declared.Object.{Object}
+use Rattle.rules_table.specs.declared.Mapping.{Mapping}
+use Rattle.rules_calls.specs.declared.Edit.{Edit}
+use Rattle.rules_calls.specs.Map.{MapFields, mapNumberChecks, mapChecks, mapEdit}
+use Rattle.rules_calls.specs.Copy.{CopyFields, copyNumberChecks, copyChecks, copyEdit}
+use Rattle.rules_calls.specs.Unmap.{UnmapFields, unmapNumberChecks, unmapChecks, unmapEdit}
+use Rattle.rules_calls.specs.Allow.{AllowFields, allowNumberChecks, allowChecks, allowEdit}
+use Rattle.rules_calls.specs.Ranges.{RangesFields, rangesChecks, rangesErrno}
+
+abbrev mapOf : ℕ → ℕ → ℕ → ℕ → ℕ → ℕ → MapFields
+mapOf flags s z memory n x = record { flags = flags; space = s; mustBeZero = z; memory = memory; length = n; address = x }
+
+abbrev pub mapNumberChecksAt : List Object → ℕ → ℕ → ℕ → ℕ → ℕ → ℕ → List (Check ℕ)
+mapNumberChecksAt os flags s z memory n x = mapNumberChecks os (mapOf flags s z memory n x)
+
+abbrev pub mapChecksAt : ℕ → List Object → List Mapping → ℕ → ℕ → ℕ → ℕ → ℕ → ℕ → List (Check ℕ)
+mapChecksAt limit os ms flags s z memory n x = mapChecks limit os ms (mapOf flags s z memory n x)
+
+abbrev pub mapEditAt : ℕ → List Object → List Mapping → ℕ → ℕ → ℕ → ℕ → ℕ → ℕ → Edit
+mapEditAt limit os ms flags s z memory n x = mapEdit limit os ms (mapOf flags s z memory n x)
+
+abbrev copyBy : ℕ → ℕ → ℕ → ℕ → ℕ → ℕ → CopyFields
+copyBy flags target source n x y = record { flags = flags; target = target; source = source; length = n; address = x; origin = y }
+
+abbrev pub copyNumberChecksAt : List Object → ℕ → ℕ → ℕ → ℕ → ℕ → ℕ → List (Check ℕ)
+copyNumberChecksAt os flags target source n x y = copyNumberChecks os (copyBy flags target source n x y)
+
+abbrev pub copyChecksAt : List Object → List Mapping → ℕ → ℕ → ℕ → ℕ → ℕ → ℕ → List (Check ℕ)
+copyChecksAt os ms flags target source n x y = copyChecks os ms (copyBy flags target source n x y)
+
+abbrev pub copyEditAt : List Object → List Mapping → ℕ → ℕ → ℕ → ℕ → ℕ → ℕ → Edit
+copyEditAt os ms flags target source n x y = copyEdit os ms (copyBy flags target source n x y)
+
+abbrev unmapOf : ℕ → ℕ → ℕ → UnmapFields
+unmapOf s a n = record { space = s; address = a; length = n }
+
+abbrev pub unmapNumberChecksAt : List Object → ℕ → ℕ → ℕ → List (Check ℕ)
+unmapNumberChecksAt os s a n = unmapNumberChecks os (unmapOf s a n)
+
+abbrev pub unmapChecksAt : List Object → List Mapping → ℕ → ℕ → ℕ → List (Check ℕ)
+unmapChecksAt os ms s a n = unmapChecks os ms (unmapOf s a n)
+
+abbrev pub unmapEditAt : List Object → List Mapping → ℕ → ℕ → ℕ → Edit
+unmapEditAt os ms s a n = unmapEdit os ms (unmapOf s a n)
+
+abbrev allowOf : ℕ → ℕ → ℕ → AllowFields
+allowOf s count z = record { space = s; count = count; mustBeZero = z }
+
+abbrev pub allowNumberChecksAt : List Object → ℕ → ℕ → ℕ → ℕ → List (Check ℕ)
+allowNumberChecksAt os s count z room = allowNumberChecks os (allowOf s count z) room
+
+abbrev pub allowChecksAt : List Object → ℕ → ℕ → ℕ → List ℕ → List (Check ℕ)
+allowChecksAt os s count z area = allowChecks os (allowOf s count z) area
+
+abbrev pub allowEditAt : List Object → ℕ → ℕ → ℕ → List ℕ → Edit
+allowEditAt os s count z area = allowEdit os (allowOf s count z) area
+
+abbrev rangesOf : ℕ → ℕ → ℕ → RangesFields
+rangesOf s count z = record { space = s; count = count; mustBeZero = z }
+
+abbrev pub rangesChecksAt : List Object → ℕ → ℕ → ℕ → ℕ → List (Check ℕ)
+rangesChecksAt os s count z room = rangesChecks os (rangesOf s count z) room
+
+abbrev pub rangesErrnoAt : List Object → ℕ → ℕ → ℕ → List ℕ → ℕ
+rangesErrnoAt os s count z area = rangesErrno os (rangesOf s count z) area
