@@ -3,32 +3,34 @@ use Prim.Native.Nat.{ℕ}
 use mathlib.Core.Path.{_≡_, ap, _∙_}
 use mathlib.Core.Bool.{Bool, not, _&&_}
 use mathlib.Core.List.{List, [], _∷_, _++_}
+use mathlib.Core.Option.{Option}
 use native.Mathlib.Omega.{arith}
 use lib.Dec.{eqb}
 use Rattle.lists.specs.Checks.{Check, when, first, Refusals}
 use Rattle.ranges.specs.Ranges.{passes}
 use Rattle.rangelists.specs.declared.Found.{Found}
-use Rattle.rangelists.specs.Listed.{found, isFound}
+use Rattle.rangelists.specs.Listed.{isFound}
 use Rattle.rules_table.specs.Flags.{bit, unknown}
 use Rattle.rules_table.specs.declared.Object.{Object}
 use Rattle.rules_table.specs.declared.Mapping.{Mapping}
 use Rattle.rules_table.specs.Records.{spaceAt}
 use Rattle.rules_table.specs.Charge.{freeMapping}
 use Rattle.rules_calls.specs.declared.Edit.{Edit}
-use Rattle.rules_calls.specs.Edits.{refuse}
+use Rattle.rules_calls.specs.Edits.{refuse, isNone}
 use Rattle.edits.specs.Settled.{checked, checked-last, settle-refused, settle-taken}
 use Rattle.scan.specs.declared.Survey.{Survey}
-use Rattle.rules_calls.specs.declared.Source.{Source}
-use Rattle.rules_calls.specs.declared.Source.the-variants.{Missing}
+use Rattle.scan.specs.declared.Source.{Source}
+use Rattle.scan.specs.declared.Source.the-variants.{Missing}
 use Rattle.scan.specs.Surveyed.{surveyOf}
-use Rattle.rules_calls.specs.Copy.{sourceOf, sourced, sourceMapping, isMissing, sourceChecks, recordChecks, copyOf, copying, copyNumberChecks, copyChecks, copyEdit}
+use Rattle.rules_calls.specs.Copy.{sourceOf, sourceMapping, sourceChecks, recordChecks, copyOf, copying, copyNumberChecks, copyChecks, copyEdit}
 use Rattle.landing.specs.declared.Target.{Target}
 use Rattle.landing.specs.declared.Placing.{Placing}
 use Rattle.rules_calls.specs.Landing.{placeChecks}
 use Rattle.landing.specs.Placing.{Placed}
 use Rattle.rules_calls.specs.Map.{rightsOf, mapped, noRight, wrongLength, fixedPasses}
 use Rattle.cmd_map.proofs.Staging.{stage-refused, stage-passed, place-refuse}
-use Rattle.edits.specs.Numbers.{copyNumberChecksAt, copyChecksAt, copyEditAt}
+use Rattle.edits.specs.Numbers.{copyNumberChecksAt, copyChecksAt, copyEditAt, optionOf, option-found, none-found}
+use Rattle.scan.specs.Sourced.{sourced, mappingIn, mapping-sourced}
 
 pub numbers-are : (os : List Object) (flags s from n x y r1 r2 r3 r4 r5 r6 r7 : ℕ) (un nr wr pa fi tg kn : Bool) → un ≡ unknown 3 flags → nr ≡ noRight flags → wr ≡ wrongLength n → pa ≡ passes y n
     → fi ≡ fixedPasses flags x n → tg ≡ spaceAt os s → kn ≡ spaceAt os from → r1 ≡ first (when (not kn) 2 ∷ []) 0 → r2 ≡ first (when (not tg) 2 ∷ []) r1 → r3 ≡ first (when fi 75 ∷ []) r2
@@ -43,19 +45,19 @@ numbers-are os flags s from n x y r1 r2 r3 r4 r5 r6 r7 un nr wr pa fi tg kn eun 
     (checked (not tg) (not (spaceAt os s)) 2 r2 r1 0 _ e2 (ap (λ (b : Bool). not b) etg)
     (checked-last (not kn) (not (spaceAt os from)) 2 r1 0 e1 (ap (λ (b : Bool). not b) ekn)))))))
 
-pub source-none : (o : Source) → o ≡ Missing → _≡_ {A = Mapping} record { space = 0; rights = 0; founder = 0; backing = 0; address = 0; length = 0; memory = 0 } (sourceMapping o)
+pub source-none : (o : Source) → o ≡ Missing → _≡_ {A = Mapping} record { space = 0; rights = 0; founder = 0; backing = 0; address = 0; length = 0; memory = 0 } (sourceMapping (mappingIn o))
 source-none o e = rw e
 
 -- the founder's right is asked
-pub source-is : (flags : ℕ) (o : Source) (m : Mapping) (r1 r2 : ℕ) (ms w d : Bool) → ms ≡ isMissing o → m ≡ sourceMapping o → w ≡ bit 1 flags → d ≡ (w && not (eqb (m .founder) 1))
-    → r1 ≡ first (when d 1 ∷ []) 0 → r2 ≡ first (when ms 2 ∷ []) r1 → r2 ≡ first (sourceChecks flags o) 0
+pub source-is : (flags : ℕ) (o : Source) (m : Mapping) (r1 r2 : ℕ) (ms w d : Bool) → ms ≡ isNone (mappingIn o) → m ≡ sourceMapping (mappingIn o) → w ≡ bit 1 flags → d ≡ (w && not (eqb (m .founder) 1))
+    → r1 ≡ first (when d 1 ∷ []) 0 → r2 ≡ first (when ms 2 ∷ []) r1 → r2 ≡ first (sourceChecks flags (mappingIn o)) 0
 unfolding sourceChecks
 source-is flags o m r1 r2 ms w d es em ew ed e1 e2 =
-    checked ms (isMissing o) 2 r2 r1 0 _ e2 es (checked-last d (bit 1 flags && not (eqb (sourceMapping o .founder) 1)) 1 r1 0 e1 (ed ∙ rw (ew, em)))
+    checked ms (isNone (mappingIn o)) 2 r2 r1 0 _ e2 es (checked-last d (bit 1 flags && not (eqb (sourceMapping (mappingIn o) .founder) 1)) 1 r1 0 e1 (ed ∙ rw (ew, em)))
 
-pub record-is : (free : Found) (r : ℕ) (b : Bool) → b ≡ isFound free → r ≡ first (when (not b) 12 ∷ []) 0 → r ≡ first (recordChecks free) 0
+pub record-is : (free : Found) (r : ℕ) (b : Bool) → b ≡ isFound free → r ≡ first (when (not b) 12 ∷ []) 0 → r ≡ first (recordChecks (optionOf free)) 0
 unfolding recordChecks
-record-is free r b eb e = checked-last (not b) (not (isFound free)) 12 r 0 e (ap (λ (x : Bool). not x) eb)
+record-is free r b eb e = checked-last (not b) (isNone (optionOf free)) 12 r 0 e (ap (λ (x : Bool). not x) eb ∙ none-found free)
 
 pub copy-is : (m : Mapping) (flags s n x rights : ℕ) → rights ≡ rightsOf flags
     → _≡_ {A = Mapping} record { space = s; rights = rights; founder = m .founder; backing = m .backing; address = x; length = n; memory = m .memory } (copyOf m flags s n x)
@@ -68,14 +70,14 @@ module _ (os : List Object) (ms : List Mapping) (t : Target) (source from : ℕ)
   abbrev numbers : List (Check ℕ)
   numbers = copyNumberChecksAt os (t .flags) (t .space) source (t .length) (t .address) from
 
-  abbrev named : Source
-  named = sourced (sourceOf ms source from (t .length))
+  abbrev named : Option Mapping
+  named = sourceOf ms source from (t .length)
 
   abbrev places : List (Check ℕ)
   places = placeChecks os ms (t .space) (bit 0 (t .flags)) (t .length) (t .address)
 
   abbrev records : List (Check ℕ)
-  records = recordChecks (found (freeMapping ms))
+  records = recordChecks (freeMapping ms)
 
   abbrev all : List (Check ℕ)
   all = copyChecksAt os ms (t .flags) (t .space) source (t .length) (t .address) from
@@ -96,9 +98,12 @@ module _ (os : List Object) (ms : List Mapping) (t : Target) (source from : ℕ)
   unfolding copyEdit copyChecks
   by-numbers w r e h k = settle-refused w (first all 0) r _ (stage-refused numbers (sourceChecks (t .flags) named ++ (places ++ records)) w e h) h k
 
-  module _ (w : ℕ) (ew : w ≡ first numbers 0) (zw : w ≡ 0) (o : Source) (eo : o ≡ named) (d : ℕ) (ed : d ≡ first (sourceChecks (t .flags) o) 0) where
+  module _ (w : ℕ) (ew : w ≡ first numbers 0) (zw : w ≡ 0) (o : Source) (eo : o ≡ sourced named) (d : ℕ) (ed : d ≡ first (sourceChecks (t .flags) (mappingIn o)) 0) where
+    is-named : mappingIn o ≡ named
+    is-named = ap mappingIn eo ∙ mapping-sourced named
+
     denied : d ≡ first (sourceChecks (t .flags) named) 0
-    denied = ed ∙ ap (λ (x : Source). first (sourceChecks (t .flags) x) 0) eo
+    denied = ed ∙ ap (λ (x : Option Mapping). first (sourceChecks (t .flags) x) 0) is-named
 
     -- the source refuses
     pub by-source : (r : Edit) → (d ≡ 0 → ⊥) → r ≡ refuse d → r ≡ edit
@@ -120,11 +125,11 @@ module _ (os : List Object) (ms : List Mapping) (t : Target) (source from : ℕ)
       unfolding copyEdit
       by-place r h k = settle-refused (p .errno) (first all 0) r _ (after (p .errno) (stage-refused places records (p .errno) (at .errno) h)) h k
 
-      module _ (zp : p .errno ≡ 0) (v : Survey) (ev : v ≡ surveyOf ms) (full : ℕ) (ef : full ≡ first (recordChecks (v .free)) 0) where
+      module _ (zp : p .errno ≡ 0) (v : Survey) (ev : v ≡ surveyOf ms) (full : ℕ) (ef : full ≡ first (recordChecks (optionOf (v .free))) 0) where
         records-are : full ≡ first all 0
         unfolding surveyOf
         records-are =
-            after full (stage-passed places records (p .errno) full (place-refuse os ms (t .space) (bit 0 (t .flags)) (t .length) (t .address)) (at .errno) zp (ef ∙ rw ev))
+            after full (stage-passed places records (p .errno) full (place-refuse os ms (t .space) (bit 0 (t .flags)) (t .length) (t .address)) (at .errno) zp (ef ∙ rw (ev, option-found (freeMapping ms))))
 
         -- no record is free
         pub by-records : (r : Edit) → (full ≡ 0 → ⊥) → r ≡ refuse full → r ≡ edit
@@ -132,6 +137,6 @@ module _ (os : List Object) (ms : List Mapping) (t : Target) (source from : ℕ)
         by-records r h k = settle-refused full (first all 0) r _ records-are h k
 
         -- the copy is made
-        pub by-copying : (r : Edit) (m n : Mapping) → full ≡ 0 → m ≡ sourceMapping o → n ≡ copyOf m (t .flags) (t .space) (t .length) (p .address) → r ≡ mapped (v .free) n → r ≡ edit
+        pub by-copying : (r : Edit) (m n : Mapping) → full ≡ 0 → m ≡ sourceMapping (mappingIn o) → n ≡ copyOf m (t .flags) (t .space) (t .length) (p .address) → r ≡ mapped (optionOf (v .free)) n → r ≡ edit
         unfolding copyEdit copying surveyOf
-        by-copying r m n zf em en er = settle-taken full (first all 0) r _ records-are zf (er ∙ rw (en, em, eo, ev, at .address zp))
+        by-copying r m n zf em en er = settle-taken full (first all 0) r _ records-are zf (er ∙ rw (en, em, is-named, ev, option-found (freeMapping ms), at .address zp))

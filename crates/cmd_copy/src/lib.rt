@@ -9,14 +9,16 @@ ghost use Rattle.rules_table.specs.declared.Object.{Object};
 ghost use Rattle.rules_table.specs.Records.{spaceAt};
 ghost use Rattle.table.specs.Checked.{recordOk};
 ghost use Rattle.digests.specs.Digest.{Seen};
-ghost use Rattle.rules_calls.specs.Copy.{isMissing, sourceMapping, sourceChecks, recordChecks, copyOf};
-ghost use Rattle.edits.specs.Numbers.{copyNumberChecksAt, copyEditAt};
+ghost use Rattle.rules_calls.specs.Copy.{sourceMapping, sourceChecks, recordChecks, copyOf};
+ghost use Rattle.edits.specs.Numbers.{copyNumberChecksAt, copyEditAt, optionOf};
+ghost use Rattle.rules_calls.specs.Edits.{isNone};
+ghost use Rattle.scan.specs.Sourced.{mappingIn};
 use digests::Digest;
 use landing::Target;
 use rangelists::Found;
 use rules_calls::Edit;
-use rules_calls::Source;
 use rules_table::Mapping;
+use scan::Source;
 
 fn copy_number_errno(target: bool, known: bool, t: Target, from: u64) -> u8
     ensures { λ r. ⌜ ((os : List Object) (source : ℕ) → target ≡ spaceAt os (t .space) → known ≡ spaceAt os source → r ≡ first (copyNumberChecksAt os (t .flags) (t .space) source (t .length) (t .address) from) 0) ⌝ }
@@ -53,7 +55,7 @@ fn copy_number_errno(target: bool, known: bool, t: Target, from: u64) -> u8
 
 // A released record where there is no source.
 fn source_mapping(o: Source) -> Mapping
-    ensures { λ m. ⌜ m ≡ sourceMapping o ⌝ }
+    ensures { λ m. ⌜ m ≡ sourceMapping (mappingIn o) ⌝ }
 {
     match o {
         Source::Missing => Mapping {
@@ -70,7 +72,7 @@ fn source_mapping(o: Source) -> Mapping
 }
 
 fn is_missing(o: Source) -> bool
-    ensures { λ b. ⌜ b ≡ isMissing o ⌝ }
+    ensures { λ b. ⌜ b ≡ isNone (mappingIn o) ⌝ }
 {
     match o {
         Source::Missing => true,
@@ -80,7 +82,7 @@ fn is_missing(o: Source) -> bool
 
 // The right to write is the founder's, whatever the source itself may do.
 fn source_errno(flags: u32, o: Source) -> u8
-    ensures { λ r. ⌜ r ≡ first (sourceChecks flags o) 0 ⌝ }
+    ensures { λ r. ⌜ r ≡ first (sourceChecks flags (mappingIn o)) 0 ⌝ }
 {
     let missing = is_missing(o);
     let m = source_mapping(o);
@@ -90,7 +92,7 @@ fn source_errno(flags: u32, o: Source) -> u8
 }
 
 fn record_errno(free: Found) -> u8
-    ensures { λ r. ⌜ r ≡ first (recordChecks free) 0 ⌝ }
+    ensures { λ r. ⌜ r ≡ first (recordChecks (optionOf free)) 0 ⌝ }
 {
     checks::refuse_if(!rangelists::is_found(free), 12, 0)
 }

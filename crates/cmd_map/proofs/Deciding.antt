@@ -5,11 +5,10 @@ use mathlib.Core.List.{List, _++_}
 use native.Mathlib.Omega.{arith}
 use Rattle.lists.specs.Checks.{Check, first, Refusals}
 use Rattle.ranges.specs.Pages.{pagesTouched}
-use Rattle.rangelists.specs.Listed.{found}
 use Rattle.rules_table.specs.Flags.{bit}
 use Rattle.rules_table.specs.declared.Object.{Object}
 use Rattle.rules_table.specs.declared.Mapping.{Mapping}
-use Rattle.rules_table.specs.Charge.{charge, freeMapping}
+use Rattle.rules_table.specs.Charge.{charge, freeMapping, freeBacking}
 use Rattle.rules_calls.specs.declared.Edit.{Edit}
 use Rattle.rules_calls.specs.Edits.{refuse}
 use Rattle.edits.specs.Settled.{settle-refused, settle-taken}
@@ -21,7 +20,7 @@ use Rattle.rules_calls.specs.Landing.{placeChecks}
 use Rattle.landing.specs.Placing.{Placed}
 use Rattle.rules_calls.specs.Map.{numberIn, mapped, roomChecks, foundOf, founding, mapEdit, mapNumberChecks, mapChecks}
 use Rattle.cmd_map.proofs.Staging.{stage-refused, stage-passed, place-refuse}
-use Rattle.edits.specs.Numbers.{mapNumberChecksAt, mapChecksAt, mapEditAt}
+use Rattle.edits.specs.Numbers.{mapNumberChecksAt, mapChecksAt, mapEditAt, optionOf, option-found}
 
 module _ (limit : ℕ) (os : List Object) (ms : List Mapping) (t : Target) (z memory : ℕ) where
   abbrev numbers : List (Check ℕ)
@@ -31,7 +30,7 @@ module _ (limit : ℕ) (os : List Object) (ms : List Mapping) (t : Target) (z me
   places = placeChecks os ms (t .space) (bit 0 (t .flags)) (t .length) (t .address)
 
   abbrev room : List (Check ℕ)
-  room = roomChecks (found (freeMapping ms)) limit (charge ms) (pagesTouched memory (t .length))
+  room = roomChecks (freeMapping ms) limit (charge ms) (pagesTouched memory (t .length))
 
   abbrev all : List (Check ℕ)
   all = mapChecksAt limit os ms (t .flags) (t .space) z memory (t .length) (t .address)
@@ -56,12 +55,12 @@ module _ (limit : ℕ) (os : List Object) (ms : List Mapping) (t : Target) (z me
         settle-refused (p .errno) (first all 0) r _ (stage-passed numbers (places ++ room) w (p .errno) numbers-refuse ew zw (stage-refused places room (p .errno) (at .errno) h)) h k
 
     module _ (zp : p .errno ≡ 0) (v : Survey) (ev : v ≡ surveyOf ms) (pages full : ℕ) (ep : pages ≡ pagesTouched memory (t .length))
-        (ef : full ≡ first (roomChecks (v .free) limit (v .charge) pages) 0) where
+        (ef : full ≡ first (roomChecks (optionOf (v .free)) limit (v .charge) pages) 0) where
       room-is : full ≡ first all 0
       unfolding mapChecks surveyOf
       room-is =
           stage-passed numbers (places ++ room) w full numbers-refuse ew zw
-          (stage-passed places room (p .errno) full (place-refuse os ms (t .space) (bit 0 (t .flags)) (t .length) (t .address)) (at .errno) zp (ef ∙ rw (ev, ep)))
+          (stage-passed places room (p .errno) full (place-refuse os ms (t .space) (bit 0 (t .flags)) (t .length) (t .address)) (at .errno) zp (ef ∙ rw (ev, ep, option-found (freeMapping ms))))
 
       -- the room refuses
       pub by-room : (r : Edit) → (full ≡ 0 → ⊥) → r ≡ refuse full → r ≡ edit
@@ -69,6 +68,6 @@ module _ (limit : ℕ) (os : List Object) (ms : List Mapping) (t : Target) (z me
       by-room r h k = settle-refused full (first all 0) r _ room-is h k
 
       -- the mapping is made
-      pub by-making : (r : Edit) (number : ℕ) (m : Mapping) → full ≡ 0 → number ≡ numberIn (v .backing) → m ≡ foundOf number (t .flags) (t .space) memory (t .length) (p .address) → r ≡ mapped (v .free) m → r ≡ edit
+      pub by-making : (r : Edit) (number : ℕ) (m : Mapping) → full ≡ 0 → number ≡ numberIn (optionOf (v .backing)) → m ≡ foundOf number (t .flags) (t .space) memory (t .length) (p .address) → r ≡ mapped (optionOf (v .free)) m → r ≡ edit
       unfolding mapEdit founding surveyOf
-      by-making r number m zf en em er = settle-taken full (first all 0) r _ room-is zf (er ∙ rw (em, en, ev, at .address zp))
+      by-making r number m zf en em er = settle-taken full (first all 0) r _ room-is zf (er ∙ rw (em, en, ev, option-found (freeMapping ms), option-found (freeBacking ms), at .address zp))

@@ -14,7 +14,7 @@ use Rattle.lists.specs.Checks.{when, first}
 use Rattle.ranges.specs.Ranges.{passes}
 use Rattle.rangelists.specs.declared.Found.{Found}
 use Rattle.rangelists.specs.declared.Found.the-variants.{Nothing, At}
-use Rattle.rangelists.specs.Listed.{found, isFound}
+use Rattle.rangelists.specs.Listed.{isFound}
 use Rattle.rules_table.specs.Flags.{bit, unknown}
 use Rattle.rules_table.specs.declared.Object.{Object}
 use Rattle.rules_table.specs.declared.Mapping.{Mapping}
@@ -22,12 +22,12 @@ use Rattle.rules_table.specs.Records.{freeObject, spaceAt}
 use Rattle.rules_table.specs.Charge.{backs, freeBacking}
 use Rattle.rules_calls.specs.declared.Change.the-variants.{Map}
 use Rattle.rules_calls.specs.declared.Edit.{Edit}
-use Rattle.rules_calls.specs.Edits.{refuse, accept}
+use Rattle.rules_calls.specs.Edits.{refuse, accept, isNone}
 use Rattle.edits.specs.Settled.{checked, checked-last}
 use Rattle.scan.specs.declared.Survey.{Survey}
 use Rattle.scan.specs.Surveyed.{surveyOf}
 use Rattle.rules_calls.specs.Map.{rightsOf, numberIn, mapped, noRight, wrongLength, fixedPasses, roomChecks, foundOf, mapNumberChecks}
-use Rattle.edits.specs.Numbers.{mapNumberChecksAt}
+use Rattle.edits.specs.Numbers.{mapNumberChecksAt, optionOf, option-found, none-found}
 
 pub rights-are : (flags p q : ℕ) (w r : Bool) → w ≡ bit 1 flags → p ≡ onlyIf w 1 → r ≡ bit 2 flags → q ≡ onlyIf r 2 → p + q ≡ rightsOf flags
 unfolding rightsOf
@@ -43,30 +43,30 @@ fixed-passes flags x n f p b ef ep eb = eb ∙ rw (ef, ep)
 
 -- ---- the number that was found
 
-pub number-at : (f : Found) (n : ℕ) → f ≡ At n → numberIn f ≤ 128 → n ≤ 128
-number-at f n e h = omega (arith, h, ap numberIn e)
+pub number-at : (f : Found) (n : ℕ) → f ≡ At n → numberIn (optionOf f) ≤ 128 → n ≤ 128
+number-at f n e h = omega (arith, h, ap (λ (x : Found). numberIn (optionOf x)) e)
 
-pub number-none : (f : Found) → f ≡ Nothing → 0 ≡ numberIn f
-number-none f e = sym (ap numberIn e)
+pub number-none : (f : Found) → f ≡ Nothing → 0 ≡ numberIn (optionOf f)
+number-none f e = sym (ap (λ (x : Found). numberIn (optionOf x)) e)
 
-pub number-some : (f : Found) (n : ℕ) → f ≡ At n → n ≡ numberIn f
-number-some f n e = sym (ap numberIn e)
+pub number-some : (f : Found) (n : ℕ) → f ≡ At n → n ≡ numberIn (optionOf f)
+number-some f n e = sym (ap (λ (x : Found). numberIn (optionOf x)) e)
 
-backing-upto : (ms : List Mapping) (o : Option ℕ) → freeBacking ms ≡ o → numberIn (found o) ≤ 128
+backing-upto : (ms : List Mapping) (o : Option ℕ) → freeBacking ms ≡ o → numberIn o ≤ 128
 unfolding freeBacking
 backing-upto ms none e = omega arith
 backing-upto ms (some n) e = omega (arith, lowest-some (λ b. not (any (backs b) ms)) 128 1 n e .upto)
 
-pub backing-fits : (ms : List Mapping) (v : Survey) → v ≡ surveyOf ms → numberIn (v .backing) ≤ 128
+pub backing-fits : (ms : List Mapping) (v : Survey) → v ≡ surveyOf ms → numberIn (optionOf (v .backing)) ≤ 128
 unfolding surveyOf
-backing-fits ms v e = rw e (backing-upto ms (freeBacking ms) refl)
+backing-fits ms v e = rw (e, option-found (freeBacking ms)) (backing-upto ms (freeBacking ms) refl)
 
 -- ---- a new mapping in the lowest free record
 
-pub put-none : (f : Found) (m : Mapping) (r : Edit) → f ≡ Nothing → r ≡ refuse 12 → r ≡ mapped f m
+pub put-none : (f : Found) (m : Mapping) (r : Edit) → f ≡ Nothing → r ≡ refuse 12 → r ≡ mapped (optionOf f) m
 put-none f m r e k = rw e k
 
-pub put-at : (f : Found) (m : Mapping) (r : Edit) (i : ℕ) (o : Object) → f ≡ At i → o ≡ freeObject → r ≡ accept (m .address) (Map i m) o → r ≡ mapped f m
+pub put-at : (f : Found) (m : Mapping) (r : Edit) (i : ℕ) (o : Object) → f ≡ At i → o ≡ freeObject → r ≡ accept (m .address) (Map i m) o → r ≡ mapped (optionOf f) m
 put-at f m r i o e eo k = rw e (k ∙ ap (λ (x : Object). accept (m .address) (Map i m) x) eo)
 
 -- ---- the checks
@@ -92,10 +92,10 @@ module _ (limit charge pages : ℕ) where
   not-over h = sym (le-ltb limit (charge + pages) h)
 
 pub room-is : (free : Found) (limit charge pages r1 r2 : ℕ) (sm over : Bool) → sm ≡ isFound free → over ≡ ltb limit (charge + pages) → r1 ≡ first (when over 12 ∷ []) 0 → r2 ≡ first (when (not sm) 12 ∷ []) r1
-    → r2 ≡ first (roomChecks free limit charge pages) 0
+    → r2 ≡ first (roomChecks (optionOf free) limit charge pages) 0
 unfolding roomChecks
 room-is free limit charge pages r1 r2 sm over es eo e1 e2 =
-    checked (not sm) (not (isFound free)) 12 r2 r1 0 _ e2 (ap (λ (b : Bool). not b) es) (checked-last over (ltb limit (charge + pages)) 12 r1 0 e1 eo)
+    checked (not sm) (isNone (optionOf free)) 12 r2 r1 0 _ e2 (ap (λ (b : Bool). not b) es ∙ none-found free) (checked-last over (ltb limit (charge + pages)) 12 r1 0 e1 eo)
 
 pub found-is : (backing flags s memory n x rights founder : ℕ) (w : Bool) → rights ≡ rightsOf flags → w ≡ bit 1 flags → founder ≡ onlyIf w 1
     → _≡_ {A = Mapping} record { space = s; rights = rights; founder = founder; backing = backing; address = x; length = n; memory = memory } (foundOf backing flags s memory n x)

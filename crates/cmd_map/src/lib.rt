@@ -13,7 +13,7 @@ ghost use Rattle.table.specs.Checked.{recordOk};
 ghost use Rattle.digests.specs.Digest.{Seen};
 ghost use Rattle.landing.specs.Placing.{Placed};
 ghost use Rattle.rules_calls.specs.Map.{rightsOf, numberIn, mapped, noRight, wrongLength, fixedPasses, roomChecks, foundOf};
-ghost use Rattle.edits.specs.Numbers.{mapNumberChecksAt, mapEditAt};
+ghost use Rattle.edits.specs.Numbers.{mapNumberChecksAt, mapEditAt, optionOf};
 use digests::Digest;
 use landing::Placing;
 use landing::Target;
@@ -39,8 +39,8 @@ pub fn rights_of(flags: u32) -> u32
 
 // The number that was found, 0 where none was.
 fn number_in(f: Found) -> u32
-    requires { ⌜ numberIn f ≤ 128 ⌝ }
-    ensures { λ n. ⌜ n ≡ numberIn f ⌝ }
+    requires { ⌜ numberIn (optionOf f) ≤ 128 ⌝ }
+    ensures { λ n. ⌜ n ≡ numberIn (optionOf f) ⌝ }
 {
     match f {
         Found::Nothing => 0,
@@ -50,7 +50,7 @@ fn number_in(f: Found) -> u32
 
 // A mapping in the lowest free record, with its address as the reply.
 pub fn put_new(free: Found, m: Mapping) -> Edit
-    ensures { λ e. ⌜ e ≡ mapped free m ⌝ }
+    ensures { λ e. ⌜ e ≡ mapped (optionOf free) m ⌝ }
 {
     let Found::At(i) = free else {
         return edits::refusal(12);
@@ -142,7 +142,7 @@ fn over_limit(limit: u64, charge: u64, pages: u64) -> bool
 
 // A free record, and the charge within the limit.
 fn room_errno(free: Found, limit: u64, charge: u64, pages: u64) -> u8
-    ensures { λ r. ⌜ r ≡ first (roomChecks free limit charge pages) 0 ⌝ }
+    ensures { λ r. ⌜ r ≡ first (roomChecks (optionOf free) limit charge pages) 0 ⌝ }
 {
     let some = rangelists::is_found(free);
     let over = over_limit(limit, charge, pages);

@@ -1,10 +1,18 @@
--- The rules of five commands by the numbers of their fields, as the laws and the code hold them: each is the rule on the record of these numbers.
+-- The rules of five commands by the numbers of their fields, as the laws and the code hold them: each is the rule on the record of these numbers. And what a search found, as
+-- the code's enum has it.
 use Prim.Native.Nat.{ℕ}
+use mathlib.Core.Path.{_≡_, refl}
+use mathlib.Core.Bool.{not}
 use mathlib.Core.List.{List}
+use mathlib.Core.Option.{Option, none, some}
 use Rattle.lists.specs.Checks.{Check}
+use Rattle.rangelists.specs.declared.Found.{Found}
+use Rattle.rangelists.specs.declared.Found.the-variants.{Nothing, At}
+use Rattle.rangelists.specs.Listed.{found, isFound}
 use Rattle.rules_table.specs.declared.Object.{Object}
 use Rattle.rules_table.specs.declared.Mapping.{Mapping}
 use Rattle.rules_calls.specs.declared.Edit.{Edit}
+use Rattle.rules_calls.specs.Edits.{isNone}
 use Rattle.rules_calls.specs.Map.{MapFields, mapNumberChecks, mapChecks, mapEdit}
 use Rattle.rules_calls.specs.Copy.{CopyFields, copyNumberChecks, copyChecks, copyEdit}
 use Rattle.rules_calls.specs.Unmap.{UnmapFields, unmapNumberChecks, unmapChecks, unmapEdit}
@@ -67,3 +75,17 @@ rangesChecksAt os s count z room = rangesChecks os (rangesOf s count z) room
 
 abbrev pub rangesErrnoAt : List Object → ℕ → ℕ → ℕ → List ℕ → ℕ
 rangesErrnoAt os s count z area = rangesErrno os (rangesOf s count z) area
+
+-- ---- a number that was found
+
+abbrev pub optionOf : Found → Option ℕ
+optionOf Nothing = none
+optionOf (At n) = some n
+
+pub option-found : (o : Option ℕ) → optionOf (found o) ≡ o
+option-found none = refl
+option-found (some n) = refl
+
+pub none-found : (f : Found) → not (isFound f) ≡ isNone (optionOf f)
+none-found Nothing = refl
+none-found (At n) = refl

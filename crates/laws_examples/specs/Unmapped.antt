@@ -1,6 +1,7 @@
 -- K7: UNMAP over two neighbours, the mappings 0 to 4,095 and 4,096 to 8,191 of the one space: nothing goes where one is cut, both go where both are inside.
 -- The written length is the bytes removed.
 use mathlib.Core.Path.{_≡_}
+use mathlib.Core.Option.{none}
 use mathlib.Core.Bool.{true}
 use mathlib.Core.List.{[], _∷_}
 use lib.IntN.{pos, negsuc}

@@ -9,7 +9,6 @@ use Rattle.lists.specs.Search.{any}
 use Rattle.lists.specs.Update.{upd}
 use Rattle.lists.specs.Checks.{first}
 use Rattle.ranges.specs.Pages.{pagesTouched}
-use Rattle.rangelists.specs.Listed.{found, isFound}
 use Rattle.rules_table.specs.Flags.{bit}
 use Rattle.rules_table.specs.declared.Mapping.{Mapping}
 use Rattle.rules_table.specs.declared.Table.{Table}
@@ -20,12 +19,12 @@ use Rattle.table.specs.Facts.{used-record}
 use Rattle.table.specs.Charged.{free-backing}
 use Rattle.table.specs.Joined.{agree-new, agree-joined, charge-new, charge-joined}
 use Rattle.rules_calls.specs.declared.Change.the-variants.{Map, Clear}
-use Rattle.rules_calls.specs.Edits.{accept, applied}
+use Rattle.rules_calls.specs.Edits.{accept, applied, isNone}
 use Rattle.edits.specs.Kept.{settle-sound}
 use Rattle.edits.specs.Untouched.{untouched-same, settle-untouched}
 use Rattle.rules_table.specs.Untouched.{Untouched}
 use Rattle.edits.specs.Mapped.{map-sound, map-untouched, clear-sound, clear-untouched}
-use Rattle.rules_calls.specs.Copy.{sourceOf, sourced, sourceMapping, copyOf, copying, copyEdit}
+use Rattle.rules_calls.specs.Copy.{sourceOf, sourceMapping, copyOf, copying, copyEdit}
 use Rattle.rules_calls.specs.Unmap.{removedBytes, rangeAsked, unmapEdit}
 use Rattle.rules_calls.specs.Landing.{placeAt}
 use Rattle.landing.specs.Landed.{Landed, place-landed}
@@ -74,15 +73,15 @@ map-kept t flags s z memory n x g =
     go (freeMapping (t .mappings)) refl p (place-landed (t .objects) (t .mappings) s n (bit 0 flags) x (p .wanted .fixed) (p .placed)))
   where
     go : (o : Option ℕ) → freeMapping (t .mappings) ≡ o → MapPassed (t .limit) (t .objects) (t .mappings) flags s memory n x → Landed (t .objects) (t .mappings) s n (placeAt (t .objects) (t .mappings) s (bit 0 flags) n x)
-        → Sound (applied t (mapped (found o) (foundOf (numberIn (found (freeBacking (t .mappings)))) flags s memory n (placeAt (t .objects) (t .mappings) s (bit 0 flags) n x))))
-    go none e p l = contrary false (sym (ap (λ (q : Option ℕ). isFound (found q)) e) ∙ p .free) refl
+        → Sound (applied t (mapped o (foundOf (numberIn (freeBacking (t .mappings))) flags s memory n (placeAt (t .objects) (t .mappings) s (bit 0 flags) n x))))
+    go none e p l = contrary true refl (sym (ap (λ (q : Option ℕ). isNone q) e) ∙ p .free)
     go (some i) e p l =
         let w = free-backing (t .objects) (t .mappings) i (g .counted) (g .records) e in
         rw (w .1) (founded-sound t g i (w .0) flags s memory n x (placeAt (t .objects) (t .mappings) s (bit 0 flags) n x) e (w .1) p l)
 
 -- a new mapping in a free record changes no space but its own
 module _ (t : Table) (g : Sound t) (m : Mapping) (k : ℕ) (ne : m .space ≡ k → ⊥) where
-  pub put-other : (o : Option ℕ) → freeMapping (t .mappings) ≡ o → Untouched k t (applied t (mapped (found o) m))
+  pub put-other : (o : Option ℕ) → freeMapping (t .mappings) ≡ o → Untouched k t (applied t (mapped o m))
   unfolding applied
   put-other none e = untouched-same k t
   put-other (some i) e = let r = free-record (t .objects) (t .mappings) i (g .records) e in map-untouched t i m (r .0) (r .1) k ne
@@ -124,10 +123,10 @@ copy-kept t flags target source n x y g =
     go (freeMapping (t .mappings)) refl p (place-landed (t .objects) (t .mappings) target n (bit 0 flags) x (p .wanted .fixed) (p .placed)))
   where
     go : (o : Option ℕ) → freeMapping (t .mappings) ≡ o → CopyPassed (t .objects) (t .mappings) flags target source n x y → Landed (t .objects) (t .mappings) target n (placeAt (t .objects) (t .mappings) target (bit 0 flags) n x)
-        → Sound (applied t (mapped (found o) (copyOf (sourceMapping (sourced (sourceOf (t .mappings) source y n))) flags target n (placeAt (t .objects) (t .mappings) target (bit 0 flags) n x))))
-    go none e p l = contrary false (sym (ap (λ (q : Option ℕ). isFound (found q)) e) ∙ p .free) refl
+        → Sound (applied t (mapped o (copyOf (sourceMapping (sourceOf (t .mappings) source y n)) flags target n (placeAt (t .objects) (t .mappings) target (bit 0 flags) n x))))
+    go none e p l = contrary true refl (sym (ap (λ (q : Option ℕ). isNone q) e) ∙ p .free)
     go (some i) e p l =
-        copied-sound t g i (sourceMapping (sourced (sourceOf (t .mappings) source y n))) flags target source n x y (placeAt (t .objects) (t .mappings) target (bit 0 flags) n x) e p
+        copied-sound t g i (sourceMapping (sourceOf (t .mappings) source y n)) flags target source n x y (placeAt (t .objects) (t .mappings) target (bit 0 flags) n x) e p
         (source-is (t .objects) (g .info) (t .mappings) (g .records) (g .agree) source y n (p .source-space) (p .found-source)) (p .right) l
 
 pub copy-other : (k : ℕ) (t : Table) (flags target source n x y : ℕ) → Sound t → (target ≡ k → ⊥) → Untouched k t (applied t (copyEditAt (t .objects) (t .mappings) flags target source n x y))

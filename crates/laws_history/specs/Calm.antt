@@ -23,7 +23,6 @@ use Rattle.rules_calls.specs.declared.Edit.{Edit}
 use Rattle.rules_calls.specs.Edits.{accept, settle, placed, putObject, applied}
 use Rattle.rules_calls.specs.Answers.{outcome, outcomeId}
 use Rattle.edits.specs.Kept.{free-place}
-use Rattle.rules_table.specs.Fits.{bindChecks}
 use Rattle.rules_calls.specs.Bind.{newDevice, bindEdit, bindCall, bindRule}
 use Rattle.rules_calls.specs.Attach.{attachedObject, looseObject, attachChecks, attachEdit, detachChecks, detachEdit, attachCall, detachCall}
 use Rattle.laws_good.specs.DeviceKept.{device-place, detach-passed, is-device}

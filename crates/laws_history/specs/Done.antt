@@ -1,11 +1,10 @@
 -- What an accepted MAP, COPY or UNMAP did, spelled out: which record, which mapping, which bytes.
 use Prim.Native.Nat.{ℕ}
 use mathlib.Core.Path.{_≡_, refl, sym, ap, _∙_}
-use mathlib.Core.Bool.{true, false}
+use mathlib.Core.Bool.{true}
 use mathlib.Core.Option.{Option, none, some}
 use Rattle.lists.specs.Tests.{contrary}
 use Rattle.lists.specs.Checks.{first}
-use Rattle.rangelists.specs.Listed.{found, isFound}
 use Rattle.rules_table.specs.Flags.{bit}
 use Rattle.rules_table.specs.declared.Mapping.{Mapping}
 use Rattle.rules_table.specs.declared.Table.{Table}
@@ -15,8 +14,8 @@ use Rattle.table.specs.Sound.{Sound}
 use Rattle.table.specs.Charged.{free-backing}
 use Rattle.rules_calls.specs.declared.Change.the-variants.{Map, Clear}
 use Rattle.rules_calls.specs.declared.Edit.{Edit}
-use Rattle.rules_calls.specs.Edits.{accept}
-use Rattle.rules_calls.specs.Copy.{sourceOf, sourced, sourceMapping, isMissing, copyOf, copying, copyEdit}
+use Rattle.rules_calls.specs.Edits.{accept, isNone}
+use Rattle.rules_calls.specs.Copy.{sourceOf, sourceMapping, copyOf, copying, copyEdit}
 use Rattle.rules_calls.specs.Unmap.{removedBytes, rangeAsked, unmapEdit}
 use Rattle.rules_calls.specs.Landing.{placeAt}
 use Rattle.rules_calls.specs.Map.{mapped, foundOf, founding, mapEdit}
@@ -39,13 +38,13 @@ pub map-done : (t : Table) (flags s z memory n x : ℕ) → Sound t → mapEditA
 unfolding mapEdit founding foundOf
 map-done t flags s z memory n x g e =
     let checks : first (mapChecksAt (t .limit) (t .objects) (t .mappings) flags s z memory n x) 0 ≡ 0
-    = settled-zero (first (mapChecksAt (t .limit) (t .objects) (t .mappings) flags s z memory n x) 0) (mapped (found (freeMapping (t .mappings))) (founding (t .objects) (t .mappings) flags s memory n x)) e in
+    = settled-zero (first (mapChecksAt (t .limit) (t .objects) (t .mappings) flags s z memory n x) 0) (mapped (freeMapping (t .mappings)) (founding (t .objects) (t .mappings) flags s memory n x)) e in
     let p = map-passed (t .limit) (t .objects) (t .mappings) flags s z memory n x checks in
     rw checks (go p (freeMapping (t .mappings)) refl)
   where
     go : MapPassed (t .limit) (t .objects) (t .mappings) flags s memory n x → (o : Option ℕ) → freeMapping (t .mappings) ≡ o
-        → MapDone t flags s memory n x (mapped (found (freeMapping (t .mappings))) (founding (t .objects) (t .mappings) flags s memory n x))
-    go p none f = contrary false (sym (ap (λ (q : Option ℕ). isFound (found q)) f) ∙ p .free) refl
+        → MapDone t flags s memory n x (mapped (freeMapping (t .mappings)) (founding (t .objects) (t .mappings) flags s memory n x))
+    go p none f = contrary true refl (sym (ap (λ (q : Option ℕ). isNone q) f) ∙ p .free)
     go p (some i) f =
         let b = free-backing (t .objects) (t .mappings) i (g .counted) (g .records) f in
         record {
@@ -59,7 +58,7 @@ map-done t flags s z memory n x g e =
         }
       where
         made : (b : ℕ) → freeBacking (t .mappings) ≡ some b → (i : ℕ) → freeMapping (t .mappings) ≡ some i
-            → mapped (found (freeMapping (t .mappings))) (founding (t .objects) (t .mappings) flags s memory n x)
+            → mapped (freeMapping (t .mappings)) (founding (t .objects) (t .mappings) flags s memory n x)
             ≡ accept (placeAt (t .objects) (t .mappings) s (bit 0 flags) n x) (Map i (foundOf b flags s memory n (placeAt (t .objects) (t .mappings) s (bit 0 flags) n x))) freeObject
         made b eb i ei = rw (ei, eb)
 
@@ -79,14 +78,14 @@ pub copy-done : (t : Table) (flags target source n x y : ℕ) → copyEditAt (t 
 unfolding copyEdit copying copyOf
 copy-done t flags target source n x y e =
     let checks : first (copyChecksAt (t .objects) (t .mappings) flags target source n x y) 0 ≡ 0
-    = settled-zero (first (copyChecksAt (t .objects) (t .mappings) flags target source n x y) 0) (mapped (found (freeMapping (t .mappings))) (copying (t .objects) (t .mappings) (sourceMapping (sourced (sourceOf (t .mappings) source y n))) flags target n x)) e in
+    = settled-zero (first (copyChecksAt (t .objects) (t .mappings) flags target source n x y) 0) (mapped (freeMapping (t .mappings)) (copying (t .objects) (t .mappings) (sourceMapping (sourceOf (t .mappings) source y n)) flags target n x)) e in
     let p = copy-passed (t .objects) (t .mappings) flags target source n x y checks in
     rw checks (go p (freeMapping (t .mappings)) refl (sourceOf (t .mappings) source y n) refl)
   where
     go : CopyPassed (t .objects) (t .mappings) flags target source n x y → (o : Option ℕ) → freeMapping (t .mappings) ≡ o → (r : Option Mapping) → sourceOf (t .mappings) source y n ≡ r
-        → CopyDone t flags target source n x y (mapped (found (freeMapping (t .mappings))) (copying (t .objects) (t .mappings) (sourceMapping (sourced (sourceOf (t .mappings) source y n))) flags target n x))
-    go p none f r k = contrary false (sym (ap (λ (q : Option ℕ). isFound (found q)) f) ∙ p .free) refl
-    go p (some i) f none k = contrary true refl (sym (ap (λ (q : Option Mapping). isMissing (sourced q)) k) ∙ p .found-source)
+        → CopyDone t flags target source n x y (mapped (freeMapping (t .mappings)) (copying (t .objects) (t .mappings) (sourceMapping (sourceOf (t .mappings) source y n)) flags target n x))
+    go p none f r k = contrary true refl (sym (ap (λ (q : Option ℕ). isNone q) f) ∙ p .free)
+    go p (some i) f none k = contrary true refl (sym (ap (λ (q : Option Mapping). isNone q) k) ∙ p .found-source)
     go p (some i) f (some m) k = record {
       place = i;
       address = placeAt (t .objects) (t .mappings) target (bit 0 flags) n x;

@@ -12,7 +12,7 @@ use Rattle.lists.specs.Search.{any}
 use Rattle.lists.specs.Checks.{Check, first}
 use Rattle.ranges.specs.declared.Range.{Range}
 use Rattle.ranges.specs.Pages.{pagesTouched}
-use Rattle.rangelists.specs.Listed.{found, allowed}
+use Rattle.rangelists.specs.Listed.{allowed}
 use Rattle.rules_table.specs.Flags.{bit}
 use Rattle.rules_calls.specs.Results.{result}
 use Rattle.wire.specs.Fields.{field}
@@ -41,7 +41,7 @@ module _ (s : ℕ) (t u : Table) (a : Alike s t u) where
       leb-iff (suc (t .limit)) (charge (t .mappings) + pages) (suc (u .limit)) (charge (u .mappings) + pages)
       (λ h. omega (arith, h, a .limit, a .charge)) (λ h. omega (arith, h, a .limit, a .charge))
 
-  room-alike : (pages : ℕ) → roomChecks (found (freeMapping (t .mappings))) (t .limit) (charge (t .mappings)) pages ≡ roomChecks (found (freeMapping (u .mappings))) (u .limit) (charge (u .mappings)) pages
+  room-alike : (pages : ℕ) → roomChecks (freeMapping (t .mappings)) (t .limit) (charge (t .mappings)) pages ≡ roomChecks (freeMapping (u .mappings)) (u .limit) (charge (u .mappings)) pages
   unfolding roomChecks
   room-alike pages = rw (free-alike (t .mappings) (u .mappings) (a .free), over-alike pages)
 
@@ -58,7 +58,7 @@ module _ (s : ℕ) (t u : Table) (a : Alike s t u) where
     unfolding mapEdit founding foundOf
     map-edit-alike =
         settle-alike _ _ _ _ (ap (λ (l : List (Check ℕ)). first l 0) map-checks-alike)
-        (mapped-alike (found (freeMapping (t .mappings))) (found (freeMapping (u .mappings))) _ _ (free-alike (t .mappings) (u .mappings) (a .free)) (place-alike s t u a n x (bit 0 flags)))
+        (mapped-alike (freeMapping (t .mappings)) (freeMapping (u .mappings)) _ _ (free-alike (t .mappings) (u .mappings) (a .free)) (place-alike s t u a n x (bit 0 flags)))
 
   module _ (x n : ℕ) where
     unmap-numbers-alike : unmapNumberChecksAt (t .objects) s x n ≡ unmapNumberChecksAt (u .objects) s x n

@@ -12,13 +12,13 @@ use Rattle.lists.specs.Each.{Each-of}
 use Rattle.lists.specs.Sums.{sumOf-cong, sumOf-keep, countOf, countOf-any}
 use Rattle.ranges.specs.declared.Range.{Range}
 use Rattle.ranges.specs.Ranges.{share, inside, span}
-use Rattle.rangelists.specs.Listed.{found, isFound}
 use Rattle.rules_table.specs.declared.Mapping.{Mapping}
 use Rattle.rules_table.specs.Records.{used, ofSpace, extent, touches, within, cutBy}
 use Rattle.rules_table.specs.Charge.{freeMapping}
 use Rattle.rules_calls.specs.Unmap.{removedBytes}
 use Rattle.rules_calls.specs.Landing.{taken}
 use Rattle.rules_history.specs.Alike.{Shape, shape, mappingsWeigh}
+use Rattle.rules_calls.specs.Edits.{isNone}
 
 -- how many mappings of the space pass a test of their shape
 count-weigh : (p : Shape → Bool) (s : ℕ) (ms : List Mapping) → countOf (λ m. ofSpace s m && p (shape m)) ms ≡ mappingsWeigh (λ x. onlyIf (p x) 1) s ms
@@ -73,16 +73,18 @@ module _ (s : ℕ) (ms ns : List Mapping) (h : (w : Shape → ℕ) → mappingsW
   pub removed-alike : (r : Range) → removedBytes s r ms ≡ removedBytes s r ns
   removed-alike r = removed-weigh s r ms ∙ h (λ x. onlyIf (inside (span (x .address) (x .length)) r) (x .length)) ∙ sym (removed-weigh s r ns)
 
--- a record is found exactly if one is free
-found-free : (ms : List Mapping) → isFound (found (freeMapping ms)) ≡ any (λ m. not (used m)) ms
+-- none is found exactly if none is free
+found-free : (ms : List Mapping) → isNone (freeMapping ms) ≡ not (any (λ m. not (used m)) ms)
 unfolding freeMapping
 found-free ms = go (seek (λ m. not (used m)) 0 ms) (any (λ m. not (used m)) ms) refl refl
   where
-    go : (o : Option ℕ) (b : Bool) → seek (λ m. not (used m)) 0 ms ≡ o → any (λ m. not (used m)) ms ≡ b → isFound (found o) ≡ any (λ m. not (used m)) ms
-    go none b e f = sym (seek-none (λ m. not (used m)) 0 ms e)
-    go (some n) true e f = sym f
+    go : (o : Option ℕ) (b : Bool) → seek (λ m. not (used m)) 0 ms ≡ o → any (λ m. not (used m)) ms ≡ b → isNone o ≡ not (any (λ m. not (used m)) ms)
+    go none b e f = sym (ap (λ (x : Bool). not x) (seek-none (λ m. not (used m)) 0 ms e))
+    go (some n) true e f = sym (ap (λ (x : Bool). not x) f)
     go (some n) false e f = let g = seek-any-false (λ m. not (used m)) 0 ms f in let z : _≡_ {A = ℕ} 0 1 = cc in absurd (omega arith)
 
-pub free-alike : (ms ns : List Mapping) → countOf (λ m. not (used m)) ms ≡ countOf (λ m. not (used m)) ns → isFound (found (freeMapping ms)) ≡ isFound (found (freeMapping ns))
+pub free-alike : (ms ns : List Mapping) → countOf (λ m. not (used m)) ms ≡ countOf (λ m. not (used m)) ns → isNone (freeMapping ms) ≡ isNone (freeMapping ns)
 free-alike ms ns h =
-    found-free ms ∙ sym (countOf-any (λ m. not (used m)) ms) ∙ ap (ltb 0) h ∙ countOf-any (λ m. not (used m)) ns ∙ sym (found-free ns)
+    found-free ms
+    ∙ ap (λ (x : Bool). not x) (sym (countOf-any (λ m. not (used m)) ms) ∙ ap (ltb 0) h ∙ countOf-any (λ m. not (used m)) ns)
+    ∙ sym (found-free ns)

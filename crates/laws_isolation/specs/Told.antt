@@ -1,19 +1,17 @@
 -- Edits that tell the caller the same, errno and number: so do the results and the bytes that come of them. What they do to the table may differ.
 use Prim.Native.Nat.{ℕ, zero, suc}
 use mathlib.Core.Path.{_≡_, refl, sym, ap, _∙_}
+use mathlib.Core.Option.{Option, none, some}
 use mathlib.Core.Bool.{Bool, true, false, cond}
 use mathlib.Core.List.{List}
 use Rattle.lists.specs.Tests.{contrary}
-use Rattle.rangelists.specs.declared.Found.{Found}
-use Rattle.rangelists.specs.declared.Found.the-variants.{Nothing, At}
-use Rattle.rangelists.specs.Listed.{isFound}
 use Rattle.rules_calls.specs.Opening.{opened, openingErrno}
 use Rattle.rules_calls.specs.Results.{result}
 use Rattle.rules_table.specs.declared.Mapping.{Mapping}
 use Rattle.rules_table.specs.declared.Table.{Table}
 use Rattle.rules_table.specs.Good.{good}
 use Rattle.rules_calls.specs.declared.Edit.{Edit}
-use Rattle.rules_calls.specs.Edits.{settle}
+use Rattle.rules_calls.specs.Edits.{settle, isNone}
 use Rattle.rules_calls.specs.Answers.{outcome, replied}
 use Rattle.rules_calls.specs.Map.{mapped}
 use Rattle.rules_calls.specs.Gate.{gateErrno}
@@ -31,11 +29,11 @@ pub settle-alike : (n k : ℕ) (e f : Edit) → n ≡ k → TellAlike e f → Te
 settle-alike n k e f s h = rw s (settle-one k e f h)
 
 -- a new mapping tells its address, whatever its record and backing number
-pub mapped-alike : (i k : Found) (m n : Mapping) → isFound i ≡ isFound k → m .address ≡ n .address → TellAlike (mapped i m) (mapped k n)
-mapped-alike Nothing Nothing m n e h = record { errno = refl; value = refl }
-mapped-alike Nothing (At k) m n e h = contrary false e refl
-mapped-alike (At i) Nothing m n e h = contrary true refl e
-mapped-alike (At i) (At k) m n e h = record { errno = refl; value = h }
+pub mapped-alike : (i k : Option ℕ) (m n : Mapping) → isNone i ≡ isNone k → m .address ≡ n .address → TellAlike (mapped i m) (mapped k n)
+mapped-alike none none m n e h = record { errno = refl; value = refl }
+mapped-alike none (some k) m n e h = contrary true refl e
+mapped-alike (some i) none m n e h = contrary false e refl
+mapped-alike (some i) (some k) m n e h = record { errno = refl; value = h }
 
 -- the gate of a good table asks the bytes alone
 pub gate-alike : (t u : Table) (request : ℕ) (bytes : List ℕ) → good t ≡ true → good u ≡ true → gateErrno t request bytes ≡ gateErrno u request bytes

@@ -9,7 +9,6 @@ use Rattle.lists.specs.Tests.{by-test}
 use Rattle.wire.specs.Fields.{field, field-put}
 use Rattle.rules_calls.specs.declared.Command.{Command}
 use Rattle.rules_calls.specs.Requests.{requestOf}
-use Rattle.rules_calls.specs.Results.{result}
 use Rattle.opening.specs.Signed.{result-none}
 use Rattle.rules_table.specs.declared.Table.{Table}
 use Rattle.rules_table.specs.Good.{good}

@@ -10,15 +10,14 @@ use Rattle.lists.specs.Tests.{by-test, contrary, and-left, and-right, and-both}
 use Rattle.lists.specs.Search.{any-false-at}
 use Rattle.lists.specs.Checks.{first}
 use Rattle.ranges.specs.Ranges.{holds, share, share-of, passes, span}
-use Rattle.rangelists.specs.Listed.{found, isFound}
 use Rattle.rules_table.specs.Flags.{bit}
 use Rattle.rules_table.specs.declared.Object.{Object}
 use Rattle.rules_table.specs.declared.Mapping.{Mapping}
 use Rattle.rules_table.specs.Records.{zeroMapping, used, ofSpace, extent, touches, covers}
 use Rattle.rules_table.specs.Charge.{freeMapping}
 use Rattle.rules_calls.specs.declared.Edit.{Edit}
-use Rattle.rules_calls.specs.Edits.{settle}
-use Rattle.rules_calls.specs.Copy.{sourceOf, sourced, sourceMapping, copyOf, copying, copyEdit}
+use Rattle.rules_calls.specs.Edits.{settle, isNone}
+use Rattle.rules_calls.specs.Copy.{sourceOf, sourceMapping, copyOf, copying, copyEdit}
 use Rattle.rules_calls.specs.Landing.{taken, placeChecks, placeAt, CandidateIn}
 use Rattle.landing.specs.Landed.{Landed, place-landed, automatic-candidate}
 use Rattle.rules_calls.specs.Map.{mapped, foundOf, founding, mapEdit}
@@ -51,8 +50,8 @@ landed-uncovered os ms s n x a i l h k =
     (λ c. c)
 
 -- the number that a new mapping's edit tells is its address
-told : (o : Option ℕ) (m : Mapping) → isFound (found o) ≡ true → mapped (found o) m .value ≡ m .address
-told none m e = contrary false e refl
+told : (o : Option ℕ) (m : Mapping) → isNone o ≡ false → mapped o m .value ≡ m .address
+told none m e = contrary true refl e
 told (some i) m e = refl
 
 settled-value : (n : ℕ) (e : Edit) → n ≡ 0 → settle n e .value ≡ e .value
@@ -61,12 +60,12 @@ settled-value n e h = rw h
 module _ (limit : ℕ) (os : List Object) (ms : List Mapping) (flags s z memory n x : ℕ) (e : mapEditAt limit os ms flags s z memory n x .errno ≡ 0) where
   map-checked : first (mapChecksAt limit os ms flags s z memory n x) 0 ≡ 0
   unfolding mapEdit
-  map-checked = settled-zero (first (mapChecksAt limit os ms flags s z memory n x) 0) (mapped (found (freeMapping ms)) (founding os ms flags s memory n x)) e
+  map-checked = settled-zero (first (mapChecksAt limit os ms flags s z memory n x) 0) (mapped (freeMapping ms) (founding os ms flags s memory n x)) e
 
   map-told : mapEditAt limit os ms flags s z memory n x .value ≡ placeAt os ms s (bit 0 flags) n x
   unfolding mapEdit founding foundOf
   map-told =
-      settled-value (first (mapChecksAt limit os ms flags s z memory n x) 0) (mapped (found (freeMapping ms)) (founding os ms flags s memory n x)) map-checked
+      settled-value (first (mapChecksAt limit os ms flags s z memory n x) 0) (mapped (freeMapping ms) (founding os ms flags s memory n x)) map-checked
       ∙ told (freeMapping ms) (founding os ms flags s memory n x) (map-passed limit os ms flags s z memory n x map-checked .free)
 
   -- an accepted MAP of n bytes lands at the address that it tells
@@ -76,13 +75,13 @@ module _ (limit : ℕ) (os : List Object) (ms : List Mapping) (flags s z memory 
 module _ (os : List Object) (ms : List Mapping) (flags target source n x y : ℕ) (e : copyEditAt os ms flags target source n x y .errno ≡ 0) where
   copy-checked : first (copyChecksAt os ms flags target source n x y) 0 ≡ 0
   unfolding copyEdit
-  copy-checked = settled-zero (first (copyChecksAt os ms flags target source n x y) 0) (mapped (found (freeMapping ms)) (copying os ms (sourceMapping (sourced (sourceOf ms source y n))) flags target n x)) e
+  copy-checked = settled-zero (first (copyChecksAt os ms flags target source n x y) 0) (mapped (freeMapping ms) (copying os ms (sourceMapping (sourceOf ms source y n)) flags target n x)) e
 
   copy-told : copyEditAt os ms flags target source n x y .value ≡ placeAt os ms target (bit 0 flags) n x
   unfolding copyEdit copying copyOf
   copy-told =
-      settled-value (first (copyChecksAt os ms flags target source n x y) 0) (mapped (found (freeMapping ms)) (copying os ms (sourceMapping (sourced (sourceOf ms source y n))) flags target n x)) copy-checked
-      ∙ told (freeMapping ms) (copying os ms (sourceMapping (sourced (sourceOf ms source y n))) flags target n x) (copy-passed os ms flags target source n x y copy-checked .free)
+      settled-value (first (copyChecksAt os ms flags target source n x y) 0) (mapped (freeMapping ms) (copying os ms (sourceMapping (sourceOf ms source y n)) flags target n x)) copy-checked
+      ∙ told (freeMapping ms) (copying os ms (sourceMapping (sourceOf ms source y n)) flags target n x) (copy-passed os ms flags target source n x y copy-checked .free)
 
   -- so does an accepted COPY
   pub copy-landed : LandedAt os ms target (bit 0 flags) n x (copyEditAt os ms flags target source n x y .value)

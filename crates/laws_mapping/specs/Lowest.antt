@@ -20,7 +20,7 @@ use Rattle.rules_table.specs.Spaces.{alignment}
 use Rattle.rules_calls.specs.declared.Edit.{Edit}
 use Rattle.rules_calls.specs.Edits.{settle}
 use Rattle.rules_calls.specs.Answers.{outcome}
-use Rattle.rules_calls.specs.Copy.{sourceOf, sourced, sourceChecks, copyDecided, copyCall, copyAnswer, copyBytes}
+use Rattle.rules_calls.specs.Copy.{sourceOf, sourceChecks, copyDecided, copyCall, copyAnswer, copyBytes}
 use Rattle.rules_calls.specs.Landing.{CandidateIn}
 use Rattle.rules_calls.specs.Map.{mapDecided, mapCall, mapAnswer, mapBytes}
 use Rattle.laws_mapping.specs.Landing.{LandedAt, landed-uncovered, map-landed, copy-landed}
@@ -108,7 +108,7 @@ module _ (t : Table) (bytes : List ℕ) (ok : copyAnswer t bytes .result ≡ pos
 
 module _ (t : Table) (bytes : List ℕ) (gate : gateErrno t 0x3B83 bytes ≡ 0)
     (numbers : first (copyNumberChecksAt (t .objects) (field 4 bytes 4) (field 4 bytes 8) (field 4 bytes 12) (field 8 bytes 16) (field 8 bytes 24) (field 8 bytes 32)) 0 ≡ 0)
-    (sources : first (sourceChecks (field 4 bytes 4) (sourced (sourceOf (t .mappings) (field 4 bytes 12) (field 8 bytes 32) (field 8 bytes 16)))) 0 ≡ 0)
+    (sources : first (sourceChecks (field 4 bytes 4) (sourceOf (t .mappings) (field 4 bytes 12) (field 8 bytes 32) (field 8 bytes 16))) 0 ≡ 0)
     (free : bit 0 (field 4 bytes 4) ≡ false) (m : multiple (alignment (t .objects) (field 4 bytes 8)) (field 8 bytes 16) ≡ true) where
   copy-open : copyCall t bytes ≡ copyDecided t bytes
   unfolding copyCall

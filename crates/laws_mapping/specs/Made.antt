@@ -24,11 +24,12 @@ use Rattle.table.specs.Sound.{Backing, Shares, Agree}
 use Rattle.table.specs.Facts.{UsedOk, record-used, record-free}
 use Rattle.table.specs.Charged.{backs-of}
 use Rattle.edits.specs.Settled.{space-id}
-use Rattle.rules_calls.specs.Copy.{isSource, sourceOf, sourced, sourceMapping, isMissing, copyOf}
+use Rattle.rules_calls.specs.Copy.{isSource, sourceOf, sourceMapping, copyOf}
 use Rattle.rules_calls.specs.Landing.{taken}
 use Rattle.landing.specs.Landed.{Landed}
 use Rattle.rules_calls.specs.Map.{rightsOf, foundOf}
 use Rattle.laws_mapping.specs.Passed.{Wanted}
+use Rattle.rules_calls.specs.Edits.{isNone}
 
 -- ---- the record and the backing number that a new mapping takes
 
@@ -145,10 +146,10 @@ module _ (os : List Object) (info : ℕ → Backing) (ms : List Mapping) (ok : E
         backed = by-test (any (backs (m .backing)) ms) (λ q. q) (λ q. contrary (backs (m .backing) m) (backs-of (m .backing) m refl) (find-some-any (isSource source y n) (backs (m .backing)) ms m e q));
       }
 
-  pub source-is : isMissing (sourced (sourceOf ms source y n)) ≡ false → SourceIs os info ms source y n (sourceMapping (sourced (sourceOf ms source y n)))
+  pub source-is : isNone (sourceOf ms source y n) ≡ false → SourceIs os info ms source y n (sourceMapping (sourceOf ms source y n))
   source-is e = go (sourceOf ms source y n) refl e
     where
-      go : (o : Option Mapping) → sourceOf ms source y n ≡ o → isMissing (sourced o) ≡ false → SourceIs os info ms source y n (sourceMapping (sourced o))
+      go : (o : Option Mapping) → sourceOf ms source y n ≡ o → isNone o ≡ false → SourceIs os info ms source y n (sourceMapping o)
       go none f g = contrary true refl g
       go (some m) f g = source-of m f
 

@@ -1,6 +1,7 @@
 -- What the checks of an accepted MAP, COPY or UNMAP have shown, in the form that proofs want.
 use Prim.Native.Nat.{ℕ, zero, suc, _+_, _≤_, _<_, _^_}
 use mathlib.Core.Path.{_≡_, refl, sym, _∙_}
+use mathlib.Core.Option.{none, some}
 use mathlib.Core.Bool.{Bool, true, false, not, _&&_, _||_}
 use mathlib.Core.List.{List, _++_}
 use native.Mathlib.Omega.{arith}
@@ -12,15 +13,14 @@ use Rattle.lists.specs.Search.{any}
 use Rattle.lists.specs.Checks.{Check, when, first, first-append, first-stays, first-goes, Refusals, passed}
 use Rattle.ranges.specs.Ranges.{passes}
 use Rattle.ranges.specs.Pages.{pagesTouched}
-use Rattle.rangelists.specs.Listed.{found, isFound}
 use Rattle.rules_table.specs.Flags.{bit}
 use Rattle.rules_table.specs.declared.Object.{Object}
 use Rattle.rules_table.specs.declared.Mapping.{Mapping}
 use Rattle.rules_table.specs.Records.{spaceAt, within, cutBy}
 use Rattle.rules_table.specs.Charge.{charge, freeMapping}
 use Rattle.rules_calls.specs.declared.Edit.{Edit}
-use Rattle.rules_calls.specs.Edits.{settle}
-use Rattle.rules_calls.specs.Copy.{sourceOf, sourced, sourceMapping, isMissing, sourceChecks, recordChecks, copyNumberChecks, copyChecks}
+use Rattle.rules_calls.specs.Edits.{settle, isNone}
+use Rattle.rules_calls.specs.Copy.{sourceOf, sourceMapping, sourceChecks, recordChecks, copyNumberChecks, copyChecks}
 use Rattle.rules_calls.specs.Landing.{fixedChecks, automaticChecks, placeChecks}
 use Rattle.rules_calls.specs.Map.{noRight, wrongLength, fixedPasses, roomChecks, mapChecks, mapNumberChecks}
 use Rattle.rules_calls.specs.Unmap.{asksAll, rangeAsked, removalBy, removalChecks, unmapChecks, unmapNumberChecks}
@@ -74,7 +74,7 @@ pub record MapPassed (limit : ℕ) (os : List Object) (ms : List Mapping) (flags
   pub memory-ends : passes memory n ≡ false
   pub space : spaceAt os s ≡ true
   pub placed : first (placeChecks os ms s (bit 0 flags) n x) 0 ≡ 0
-  pub free : isFound (found (freeMapping ms)) ≡ true
+  pub free : isNone (freeMapping ms) ≡ false
   pub room : charge ms + pagesTouched memory n ≤ limit
 
 module _ (limit : ℕ) (os : List Object) (ms : List Mapping) (flags s z memory n x : ℕ) where
@@ -82,7 +82,7 @@ module _ (limit : ℕ) (os : List Object) (ms : List Mapping) (flags s z memory 
   unfolding mapNumberChecks
   map-numbers-refuse = (no 94, (no 21, (no 21, (no 74, (no 74, (no 1, tt))))))
 
-  room-refuse : Refusals (roomChecks (found (freeMapping ms)) limit (charge ms) (pagesTouched memory n)) 0
+  room-refuse : Refusals (roomChecks (freeMapping ms) limit (charge ms) (pagesTouched memory n)) 0
   unfolding roomChecks
   room-refuse = (no 11, (no 11, tt))
 
@@ -94,15 +94,15 @@ module _ (limit : ℕ) (os : List Object) (ms : List Mapping) (flags s z memory 
   pub map-passed : first (mapChecksAt limit os ms flags s z memory n x) 0 ≡ 0 → MapPassed limit os ms flags s memory n x
   unfolding mapChecks mapNumberChecks roomChecks
   map-passed e =
-      let p = both-passed (mapNumberChecksAt os flags s z memory n x) (placeChecks os ms s (bit 0 flags) n x ++ roomChecks (found (freeMapping ms)) limit (charge ms) (pagesTouched memory n)) map-numbers-refuse e in
-      let q = both-passed (placeChecks os ms s (bit 0 flags) n x) (roomChecks (found (freeMapping ms)) limit (charge ms) (pagesTouched memory n)) (place-refuse os ms s (bit 0 flags) n x) (p .1) in
+      let p = both-passed (mapNumberChecksAt os flags s z memory n x) (placeChecks os ms s (bit 0 flags) n x ++ roomChecks (freeMapping ms) limit (charge ms) (pagesTouched memory n)) map-numbers-refuse e in
+      let q = both-passed (placeChecks os ms s (bit 0 flags) n x) (roomChecks (freeMapping ms) limit (charge ms) (pagesTouched memory n)) (place-refuse os ms s (bit 0 flags) n x) (p .1) in
       record {
         wanted = wanted flags n x (map-number (p .0) 1 (omega arith)) (map-number (p .0) 2 (omega arith)) (map-number (p .0) 4 (omega arith));
         memory-ends = map-number (p .0) 3 (omega arith);
         space = not-false (spaceAt os s) (map-number (p .0) 5 (omega arith));
         placed = q .0;
-        free = not-false (isFound (found (freeMapping ms))) (passed (roomChecks (found (freeMapping ms)) limit (charge ms) (pagesTouched memory n)) 0 (when false 0) room-refuse (q .1) 0 (omega arith));
-        room = ltb-false limit (charge ms + pagesTouched memory n) (passed (roomChecks (found (freeMapping ms)) limit (charge ms) (pagesTouched memory n)) 0 (when false 0) room-refuse (q .1) 1 (omega arith));
+        free = passed (roomChecks (freeMapping ms) limit (charge ms) (pagesTouched memory n)) 0 (when false 0) room-refuse (q .1) 0 (omega arith);
+        room = ltb-false limit (charge ms + pagesTouched memory n) (passed (roomChecks (freeMapping ms) limit (charge ms) (pagesTouched memory n)) 0 (when false 0) room-refuse (q .1) 1 (omega arith));
       }
 
 -- ---- COPY
@@ -111,21 +111,21 @@ pub record CopyPassed (os : List Object) (ms : List Mapping) (flags target sourc
   pub wanted : Wanted flags n x
   pub space : spaceAt os target ≡ true
   pub source-space : spaceAt os source ≡ true
-  pub found-source : isMissing (sourced (sourceOf ms source y n)) ≡ false
-  pub right : bit 1 flags ≡ true → sourceMapping (sourced (sourceOf ms source y n)) .founder ≡ 1
+  pub found-source : isNone (sourceOf ms source y n) ≡ false
+  pub right : bit 1 flags ≡ true → sourceMapping (sourceOf ms source y n) .founder ≡ 1
   pub placed : first (placeChecks os ms target (bit 0 flags) n x) 0 ≡ 0
-  pub free : isFound (found (freeMapping ms)) ≡ true
+  pub free : isNone (freeMapping ms) ≡ false
 
 module _ (os : List Object) (ms : List Mapping) (flags target source n x y : ℕ) where
   pub copy-numbers-refuse : Refusals (copyNumberChecksAt os flags target source n x y) 0
   unfolding copyNumberChecks
   copy-numbers-refuse = (no 94, (no 21, (no 21, (no 74, (no 74, (no 1, (no 1, tt)))))))
 
-  pub source-refuse : Refusals (sourceChecks flags (sourced (sourceOf ms source y n))) 0
+  pub source-refuse : Refusals (sourceChecks flags (sourceOf ms source y n)) 0
   unfolding sourceChecks
   source-refuse = (no 1, (no 0, tt))
 
-  record-refuse : Refusals (recordChecks (found (freeMapping ms))) 0
+  record-refuse : Refusals (recordChecks (freeMapping ms)) 0
   unfolding recordChecks
   record-refuse = (no 11, tt)
 
@@ -136,9 +136,9 @@ module _ (os : List Object) (ms : List Mapping) (flags target source n x y : ℕ
   pub copy-passed : first (copyChecksAt os ms flags target source n x y) 0 ≡ 0 → CopyPassed os ms flags target source n x y
   unfolding copyChecks copyNumberChecks sourceChecks recordChecks
   copy-passed e =
-      let found-o = sourced (sourceOf ms source y n) in
+      let found-o = sourceOf ms source y n in
       let places = placeChecks os ms target (bit 0 flags) n x in
-      let records = recordChecks (found (freeMapping ms)) in
+      let records = recordChecks (freeMapping ms) in
       let p = both-passed (copyNumberChecksAt os flags target source n x y) (sourceChecks flags found-o ++ (places ++ records)) copy-numbers-refuse e in
       let q = both-passed (sourceChecks flags found-o) (places ++ records) source-refuse (p .1) in
       let r = both-passed places records (place-refuse os ms target (bit 0 flags) n x) (q .1) in
@@ -150,7 +150,7 @@ module _ (os : List Object) (ms : List Mapping) (flags target source n x y : ℕ
         found-source = passed (sourceChecks flags found-o) 0 (when false 0) source-refuse (q .0) 0 (omega arith);
         right = λ b. eqb-true (sourceMapping found-o .founder) 1 (not-false (eqb (sourceMapping found-o .founder) 1) (sym (rw b) ∙ denied));
         placed = r .0;
-        free = not-false (isFound (found (freeMapping ms))) (passed records 0 (when false 0) record-refuse (r .1) 0 (omega arith));
+        free = passed records 0 (when false 0) record-refuse (r .1) 0 (omega arith);
       }
 
 -- ---- UNMAP

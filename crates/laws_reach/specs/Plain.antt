@@ -2,6 +2,7 @@
 -- attached. Nothing that computes reach is cited here, only the records of the table, their numbers and two bits.
 use Prim.Native.Nat.{ℕ, _+_, _-_, _≤_, _<_, _^_}
 use mathlib.Core.Path.{_≡_}
+use mathlib.Core.Option.{none, some}
 use mathlib.Core.Bool.{Bool, true, false}
 use lib.ListN.{length, getD}
 use Rattle.rules_table.specs.Flags.{bit}

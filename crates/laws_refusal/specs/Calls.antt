@@ -17,7 +17,6 @@ use Rattle.rules_table.specs.Records.{objectAt, newSpace, freeObject}
 use Rattle.rules_table.specs.Charge.{freeRecord}
 use Rattle.rules_calls.specs.declared.Change.the-variants.{Put}
 use Rattle.rules_calls.specs.Answers.{replied}
-use Rattle.rules_table.specs.Fits.{bindChecks}
 use Rattle.rules_calls.specs.Bind.{newDevice, bindEdit, bindCall, bindRule}
 use Rattle.rules_calls.specs.Attach.{attachedObject, looseObject, attachChecks, attachEdit, detachChecks, detachEdit, attachCall, detachCall}
 use Rattle.rules_calls.specs.Objects.{allocChecks, allocEdit, destroyChecks, removal, destroyEdit, allocCall, allocAnswer, allocBytes, destroyAnswer}

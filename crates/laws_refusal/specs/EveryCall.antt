@@ -6,9 +6,6 @@ use mathlib.Core.List.{List, []}
 use native.Mathlib.Omega.{arith}
 use lib.IntN.{ℤ, pos, negsuc}
 use Rattle.lists.specs.Checks.{first}
-use Rattle.rangelists.specs.declared.Found.{Found}
-use Rattle.rangelists.specs.declared.Found.the-variants.{Nothing, At}
-use Rattle.rangelists.specs.Listed.{found}
 use Rattle.wire.specs.Fields.{field}
 use Rattle.rules_calls.specs.declared.Command.{Command}
 use Rattle.rules_calls.specs.declared.Command.the-variants as Named
@@ -26,29 +23,25 @@ use Rattle.rules_calls.specs.Objects.{allocChecks, allocEdit, destroyChecks, re
 use Rattle.rules_calls.specs.Allow.{areaList, withAllow, allowEdit}
 use Rattle.rules_calls.specs.Ranges.{rangesResult}
 use Rattle.rules_calls.specs.Map.{mapped, founding, mapDecided, mapCall, mapEdit}
-use Rattle.rules_calls.specs.Copy.{sourceMapping, copying, sourceOf, sourced, copyDecided, copyCall, copyEdit}
+use Rattle.rules_calls.specs.Copy.{sourceMapping, copying, sourceOf, copyDecided, copyCall, copyEdit}
 use Rattle.rules_calls.specs.Unmap.{removedBytes, rangeAsked, unmapDecided, unmapCall, unmapEdit}
 use Rattle.rules_calls.specs.Call.{Done, commandDone, rowDone, callDone, commandEdit, rowEdit, callEdit}
 use Rattle.laws_refusal.specs.Edits.{Silent, silent-accept, silent-settle, silent-placed}
-use Rattle.laws_refusal.specs.Mappings.{map-refused, copy-refused, unmap-refused}
+use Rattle.laws_refusal.specs.Mappings.{map-refused, copy-refused, unmap-refused, silent-mapped}
 use Rattle.rules_history.specs.Calls.{Call, replyOf, tableAfter}
 use Rattle.laws_refusal.specs.Calls.{alloc-refused, destroy-refused, allow-refused, ranges-refused, bind-refused, attach-refused, detach-refused}
 use Rattle.edits.specs.Numbers.{mapChecksAt, copyChecksAt, unmapChecksAt, allowChecksAt}
 
 -- ---- every edit of a command with an errno changes nothing
 
-silent-mapped : (f : Found) (m : Mapping) → Silent (mapped f m)
-silent-mapped Nothing m = λ h. refl
-silent-mapped (At i) m = λ h. absurd (h refl)
-
 silent-command : (c : Command) (t : Table) (bytes area : List ℕ) → Silent (commandEdit c t bytes area)
 unfolding destroyEdit allocCall allocEdit allowEdit copyCall copyDecided copyEdit mapCall mapDecided mapEdit unmapCall unmapDecided unmapEdit
 silent-command Named.Destroy t bytes area = silent-settle (gateErrno t 0x3B80 bytes) _ (silent-settle (first (destroyChecks (t .objects) (field 4 bytes 4)) 0) _ (silent-accept 0 (removal (objectAt (t .objects) (field 4 bytes 4) .kind) (field 4 bytes 4 - 1)) freeObject))
 silent-command Named.IoasAlloc t bytes area = silent-settle (gateErrno t 0x3B81 bytes) _ (silent-settle (first (allocChecks (t .objects) (field 4 bytes 4)) 0) _ (silent-placed (freeRecord (t .objects)) newSpace))
 silent-command Named.AllowIovas t bytes area = silent-settle (gateErrno t 0x3B82 bytes) _ (silent-settle (first (allowChecksAt (t .objects) (field 4 bytes 4) (field 4 bytes 8) (field 4 bytes 12) area) 0) _ (silent-accept 0 (Changes.Put (field 4 bytes 4 - 1)) (withAllow (objectAt (t .objects) (field 4 bytes 4)) (areaList (field 4 bytes 8) area))))
-silent-command Named.Copy t bytes area = silent-settle (gateErrno t 0x3B83 bytes) _ (silent-settle (first (copyChecksAt (t .objects) (t .mappings) (field 4 bytes 4) (field 4 bytes 8) (field 4 bytes 12) (field 8 bytes 16) (field 8 bytes 24) (field 8 bytes 32)) 0) _ (silent-mapped (found (freeMapping (t .mappings))) (copying (t .objects) (t .mappings) (sourceMapping (sourced (sourceOf (t .mappings) (field 4 bytes 12) (field 8 bytes 32) (field 8 bytes 16)))) (field 4 bytes 4) (field 4 bytes 8) (field 8 bytes 16) (field 8 bytes 24))))
+silent-command Named.Copy t bytes area = silent-settle (gateErrno t 0x3B83 bytes) _ (silent-settle (first (copyChecksAt (t .objects) (t .mappings) (field 4 bytes 4) (field 4 bytes 8) (field 4 bytes 12) (field 8 bytes 16) (field 8 bytes 24) (field 8 bytes 32)) 0) _ (silent-mapped (freeMapping (t .mappings)) (copying (t .objects) (t .mappings) (sourceMapping (sourceOf (t .mappings) (field 4 bytes 12) (field 8 bytes 32) (field 8 bytes 16))) (field 4 bytes 4) (field 4 bytes 8) (field 8 bytes 16) (field 8 bytes 24))))
 silent-command Named.IovaRanges t bytes area = λ h. refl
-silent-command Named.Map t bytes area = silent-settle (gateErrno t 0x3B85 bytes) _ (silent-settle (first (mapChecksAt (t .limit) (t .objects) (t .mappings) (field 4 bytes 4) (field 4 bytes 8) (field 4 bytes 12) (field 8 bytes 16) (field 8 bytes 24) (field 8 bytes 32)) 0) _ (silent-mapped (found (freeMapping (t .mappings))) (founding (t .objects) (t .mappings) (field 4 bytes 4) (field 4 bytes 8) (field 8 bytes 16) (field 8 bytes 24) (field 8 bytes 32))))
+silent-command Named.Map t bytes area = silent-settle (gateErrno t 0x3B85 bytes) _ (silent-settle (first (mapChecksAt (t .limit) (t .objects) (t .mappings) (field 4 bytes 4) (field 4 bytes 8) (field 4 bytes 12) (field 8 bytes 16) (field 8 bytes 24) (field 8 bytes 32)) 0) _ (silent-mapped (freeMapping (t .mappings)) (founding (t .objects) (t .mappings) (field 4 bytes 4) (field 4 bytes 8) (field 8 bytes 16) (field 8 bytes 24) (field 8 bytes 32))))
 silent-command Named.Unmap t bytes area = silent-settle (gateErrno t 0x3B86 bytes) _ (silent-settle (first (unmapChecksAt (t .objects) (t .mappings) (field 4 bytes 4) (field 8 bytes 8) (field 8 bytes 16)) 0) _ (silent-accept (removedBytes (field 4 bytes 4) (rangeAsked (field 8 bytes 8) (field 8 bytes 16)) (t .mappings)) (Changes.Clear (field 4 bytes 4) (rangeAsked (field 8 bytes 8) (field 8 bytes 16))) freeObject))
 
 pub silent-call : (t : Table) (request : ℕ) (bytes area : List ℕ) → Silent (callEdit t request bytes area)

@@ -1,13 +1,11 @@
 -- MAP, COPY and UNMAP: where the result is below zero, the table and the bytes are as they were.
 use Prim.Native.Nat.{ℕ}
 use mathlib.Core.Path.{_≡_, refl}
+use mathlib.Core.Option.{Option, none, some}
 use mathlib.Core.List.{List}
 use lib.IntN.{negsuc}
 use borrow.Author.Tests.{ne-eqb}
 use Rattle.lists.specs.Checks.{first}
-use Rattle.rangelists.specs.declared.Found.{Found}
-use Rattle.rangelists.specs.declared.Found.the-variants.{Nothing, At}
-use Rattle.rangelists.specs.Listed.{found}
 use Rattle.wire.specs.Fields.{field}
 use Rattle.rules_table.specs.declared.Mapping.{Mapping}
 use Rattle.rules_table.specs.declared.Table.{Table}
@@ -16,16 +14,16 @@ use Rattle.rules_table.specs.Charge.{freeMapping}
 use Rattle.rules_calls.specs.declared.Change.the-variants.{Clear}
 use Rattle.rules_calls.specs.declared.Edit.{Edit}
 use Rattle.rules_calls.specs.Answers.{outcome, replied}
-use Rattle.rules_calls.specs.Copy.{sourceOf, sourced, sourceMapping, copying, copyDecided, copyCall, copyAnswer, copyBytes, copyEdit}
+use Rattle.rules_calls.specs.Copy.{sourceOf, sourceMapping, copying, copyDecided, copyCall, copyAnswer, copyBytes, copyEdit}
 use Rattle.rules_calls.specs.Unmap.{removedBytes, rangeAsked, unmapDecided, unmapCall, unmapAnswer, unmapBytes, unmapEdit}
 use Rattle.rules_calls.specs.Gate.{gateErrno}
 use Rattle.rules_calls.specs.Map.{mapped, founding, mapDecided, mapCall, mapAnswer, mapBytes, mapEdit}
 use Rattle.laws_refusal.specs.Edits.{Silent, silent-accept, silent-settle, outcome-refused, errno-of}
 use Rattle.edits.specs.Numbers.{mapChecksAt, copyChecksAt, unmapChecksAt}
 
-silent-mapped : (f : Found) (m : Mapping) → Silent (mapped f m)
-silent-mapped Nothing m = λ h. refl
-silent-mapped (At i) m = λ h. absurd (h refl)
+pub silent-mapped : (f : Option ℕ) (m : Mapping) → Silent (mapped f m)
+silent-mapped none m = λ h. refl
+silent-mapped (some i) m = λ h. absurd (h refl)
 
 -- a reply that is not written
 unwritten : (t : Table) (e : Edit) (size off k : ℕ) (bytes : List ℕ) → outcome t e .result ≡ negsuc k → replied size off (e .errno) (e .value) bytes ≡ bytes
@@ -38,7 +36,7 @@ module _ (t : Table) (bytes : List ℕ) (k : ℕ) where
   map-silent =
       silent-settle (gateErrno t 0x3B85 bytes) _
       (silent-settle (first (mapChecksAt (t .limit) (t .objects) (t .mappings) (field 4 bytes 4) (field 4 bytes 8) (field 4 bytes 12) (field 8 bytes 16) (field 8 bytes 24) (field 8 bytes 32)) 0) _
-      (silent-mapped (found (freeMapping (t .mappings))) (founding (t .objects) (t .mappings) (field 4 bytes 4) (field 4 bytes 8) (field 8 bytes 16) (field 8 bytes 24) (field 8 bytes 32))))
+      (silent-mapped (freeMapping (t .mappings)) (founding (t .objects) (t .mappings) (field 4 bytes 4) (field 4 bytes 8) (field 8 bytes 16) (field 8 bytes 24) (field 8 bytes 32))))
 
   pub map-refused : mapAnswer t bytes .result ≡ negsuc k → (mapAnswer t bytes .table ≡ t) × (mapBytes t bytes ≡ bytes)
   unfolding mapAnswer mapBytes
@@ -49,8 +47,8 @@ module _ (t : Table) (bytes : List ℕ) (k : ℕ) where
   copy-silent =
       silent-settle (gateErrno t 0x3B83 bytes) _
       (silent-settle (first (copyChecksAt (t .objects) (t .mappings) (field 4 bytes 4) (field 4 bytes 8) (field 4 bytes 12) (field 8 bytes 16) (field 8 bytes 24) (field 8 bytes 32)) 0) _
-      (silent-mapped (found (freeMapping (t .mappings)))
-      (copying (t .objects) (t .mappings) (sourceMapping (sourced (sourceOf (t .mappings) (field 4 bytes 12) (field 8 bytes 32) (field 8 bytes 16)))) (field 4 bytes 4) (field 4 bytes 8) (field 8 bytes 16) (field 8 bytes 24))))
+      (silent-mapped (freeMapping (t .mappings))
+      (copying (t .objects) (t .mappings) (sourceMapping (sourceOf (t .mappings) (field 4 bytes 12) (field 8 bytes 32) (field 8 bytes 16))) (field 4 bytes 4) (field 4 bytes 8) (field 8 bytes 16) (field 8 bytes 24))))
 
   pub copy-refused : copyAnswer t bytes .result ≡ negsuc k → (copyAnswer t bytes .table ≡ t) × (copyBytes t bytes ≡ bytes)
   unfolding copyAnswer copyBytes

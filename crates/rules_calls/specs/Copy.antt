@@ -2,23 +2,19 @@
 -- no source mapping with exactly this address and length 2; writeable asked where the founding MAP was not 1. Then as MAP from its alignment check on, without the
 -- charge check. Both spaces may be the same.
 use Prim.Native.Nat.{ℕ, _+_, _^_}
-use mathlib.Core.Bool.{Bool, true, false, not, _&&_}
+use mathlib.Core.Bool.{Bool, not, _&&_}
 use mathlib.Core.List.{List, [], _∷_, _++_, map}
 use lib.Dec.{eqb}
 use mathlib.Core.Option.{Option, none, some}
 use Rattle.lists.specs.Checks.{Check, when, first}
 use Rattle.ranges.specs.Ranges.{passes, U64MAX}
-use Rattle.rangelists.specs.declared.Found.{Found}
-use Rattle.rangelists.specs.Listed.{found, isFound}
 use Rattle.rules_table.specs.Flags.{bit, unknown, fixed, writeable}
 use Rattle.rules_table.specs.declared.Object.{Object}
 use Rattle.rules_table.specs.declared.Mapping.{Mapping}
 use Rattle.rules_table.specs.Records.{zeroMapping, spaceAt, ofSpace, freeObject, newSpace, used}
 use Rattle.rules_table.specs.Charge.{freeMapping}
-use Rattle.rules_calls.specs.declared.Source.{Source}
-use Rattle.rules_calls.specs.declared.Source.the-variants.{Missing, Mapped}
 use Rattle.rules_calls.specs.declared.Edit.{Edit}
-use Rattle.rules_calls.specs.Edits.{settle, accept}
+use Rattle.rules_calls.specs.Edits.{settle, accept, isNone, noRecord}
 use Rattle.rules_calls.specs.Landing.{placeChecks, placeAt, lands}
 use Rattle.rules_calls.specs.Map.{rightsOf, mapped, noRight, wrongLength, fixedPasses}
 use Rattle.lists.specs.Search.{find, seek}
@@ -56,11 +52,6 @@ isSource s a n m = ofSpace s m && (eqb (m .address) a && eqb (m .length) n)
 unfoldable pub sourceOf : List Mapping → ℕ → ℕ → ℕ → Option Mapping
 sourceOf ms s a n = find (isSource s a n) ms
 
--- as the code's enum
-abbrev pub sourced : Option Mapping → Source
-sourced none = Missing
-sourced (some m) = Mapped m
-
 -- ---- the rule
 
 -- the checks on the numbers of the command and on the spaces
@@ -76,29 +67,25 @@ copyNumberChecks os c =
     ∷ []
 
 -- the source, and a released record where there is none
-abbrev pub sourceMapping : Source → Mapping
-sourceMapping Missing = zeroMapping
-sourceMapping (Mapped m) = m
-
-abbrev pub isMissing : Source → Bool
-isMissing Missing = true
-isMissing (Mapped m) = false
+abbrev pub sourceMapping : Option Mapping → Mapping
+sourceMapping none = zeroMapping
+sourceMapping (some m) = m
 
 -- no source: 2; writeable asked where the founding MAP was not: 1
-unfoldable pub sourceChecks : ℕ → Source → List (Check ℕ)
+unfoldable pub sourceChecks : ℕ → Option Mapping → List (Check ℕ)
 sourceChecks flags o =
-    when (isMissing o) 2
+    when (isNone o) 2
     ∷ when (writeable flags && not (eqb (sourceMapping o .founder) 1)) 1
     ∷ []
 
-unfoldable pub recordChecks : Found → List (Check ℕ)
-recordChecks free = when (not (isFound free)) 12 ∷ []
+unfoldable pub recordChecks : Option ℕ → List (Check ℕ)
+recordChecks free = noRecord free ∷ []
 
 unfoldable pub copyChecks : List Object → List Mapping → CopyFields → List (Check ℕ)
 copyChecks os ms c =
     copyNumberChecks os c
-    ++ (sourceChecks (c .flags) (sourced (sourceOf ms (c .source) (c .origin) (c .length)))
-    ++ (placeChecks os ms (c .target) (fixed (c .flags)) (c .length) (c .address) ++ recordChecks (found (freeMapping ms))))
+    ++ (sourceChecks (c .flags) (sourceOf ms (c .source) (c .origin) (c .length))
+    ++ (placeChecks os ms (c .target) (fixed (c .flags)) (c .length) (c .address) ++ recordChecks (freeMapping ms)))
 
 -- the mapping that COPY makes: the source's memory, backing and founding right
 unfoldable pub copyOf : Mapping → ℕ → ℕ → ℕ → ℕ → Mapping
@@ -119,7 +106,7 @@ copying os ms m flags target n x = copyOf m flags target n (placeAt os ms target
 unfoldable pub copyEdit : List Object → List Mapping → CopyFields → Edit
 copyEdit os ms c =
     settle (first (copyChecks os ms c) 0)
-    (mapped (found (freeMapping ms)) (copying os ms (sourceMapping (sourced (sourceOf ms (c .source) (c .origin) (c .length)))) (c .flags) (c .target) (c .length) (c .address)))
+    (mapped (freeMapping ms) (copying os ms (sourceMapping (sourceOf ms (c .source) (c .origin) (c .length))) (c .flags) (c .target) (c .length) (c .address)))
 
 -- ---- the command, for any table and any bytes
 

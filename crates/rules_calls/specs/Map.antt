@@ -2,23 +2,21 @@
 -- address + length - 1 past U64MAX: 75; no such space: 2; then the place; no free mapping record: 12; charge would pass the limit: 12.
 use Prim.Native.Nat.{ℕ, _+_, _^_}
 use mathlib.Core.Bool.{Bool, not, _&&_, _||_}
+use mathlib.Core.Option.{Option, none, some}
 use mathlib.Core.List.{List, [], _∷_, _++_, map}
 use lib.Dec.{ltb, eqb}
 use Rattle.lists.specs.Tests.{onlyIf}
 use Rattle.lists.specs.Checks.{Check, when, first}
 use Rattle.ranges.specs.Ranges.{passes, U64MAX}
 use Rattle.ranges.specs.Pages.{pagesTouched}
-use Rattle.rangelists.specs.declared.Found.{Found}
-use Rattle.rangelists.specs.Listed.{found, isFound}
 use Rattle.rules_table.specs.Flags.{bit, unknown, fixed, writeable, readable}
 use Rattle.rules_table.specs.declared.Object.{Object}
 use Rattle.rules_table.specs.declared.Mapping.{Mapping}
 use Rattle.rules_table.specs.Records.{spaceAt, freeObject, zeroMapping, newSpace, used}
 use Rattle.rules_table.specs.Charge.{charge, freeMapping, freeBacking, backs, mappingPages, backingPages, chargeIn}
 use Rattle.rules_calls.specs.declared.Edit.{Edit}
-use Rattle.rules_calls.specs.Edits.{settle, refuse, accept}
+use Rattle.rules_calls.specs.Edits.{settle, refuse, accept, noRecord}
 use Rattle.rules_calls.specs.Landing.{placeChecks, placeAt, lands}
-use Rattle.rangelists.specs.declared.Found.the-variants.{Nothing, At}
 use Rattle.rules_calls.specs.declared.Change.the-variants.{Map}
 use Rattle.wire.specs.Fields.{field}
 use Rattle.rules_table.specs.declared.Table.{Table}
@@ -52,14 +50,14 @@ unfoldable pub rightsOf : ℕ → ℕ
 rightsOf flags = onlyIf (writeable flags) 1 + onlyIf (readable flags) 2
 
 -- the number that was found, 0 where none was
-abbrev pub numberIn : Found → ℕ
-numberIn Nothing = 0
-numberIn (At n) = n
+abbrev pub numberIn : Option ℕ → ℕ
+numberIn none = 0
+numberIn (some n) = n
 
 -- a new mapping takes the lowest free record; its address is the reply
-abbrev pub mapped : Found → Mapping → Edit
-mapped Nothing m = refuse 12
-mapped (At i) m = accept (m .address) (Map i m) freeObject
+abbrev pub mapped : Option ℕ → Mapping → Edit
+mapped none m = refuse 12
+mapped (some i) m = accept (m .address) (Map i m) freeObject
 
 -- flags ask for no right
 unfoldable pub noRight : ℕ → Bool
@@ -87,16 +85,16 @@ mapNumberChecks os c =
     ∷ []
 
 -- the checks on records and charge: equal to the limit is allowed
-unfoldable pub roomChecks : Found → ℕ → ℕ → ℕ → List (Check ℕ)
+unfoldable pub roomChecks : Option ℕ → ℕ → ℕ → ℕ → List (Check ℕ)
 roomChecks free limit charged pages =
-    when (not (isFound free)) 12
+    noRecord free
     ∷ when (ltb limit (charged + pages)) 12
     ∷ []
 
 unfoldable pub mapChecks : ℕ → List Object → List Mapping → MapFields → List (Check ℕ)
 mapChecks limit os ms c =
     mapNumberChecks os c
-    ++ (placeChecks os ms (c .space) (fixed (c .flags)) (c .length) (c .address) ++ roomChecks (found (freeMapping ms)) limit (charge ms) (pagesTouched (c .memory) (c .length)))
+    ++ (placeChecks os ms (c .space) (fixed (c .flags)) (c .length) (c .address) ++ roomChecks (freeMapping ms) limit (charge ms) (pagesTouched (c .memory) (c .length)))
 
 -- the mapping that MAP founds: a backing of its own, and the founding right
 unfoldable pub foundOf : ℕ → ℕ → ℕ → ℕ → ℕ → ℕ → Mapping
@@ -112,11 +110,11 @@ foundOf backing flags s memory n x = record {
 
 -- with the lowest free backing number, at its place
 unfoldable pub founding : List Object → List Mapping → ℕ → ℕ → ℕ → ℕ → ℕ → Mapping
-founding os ms flags s memory n x = foundOf (numberIn (found (freeBacking ms))) flags s memory n (placeAt os ms s (fixed flags) n x)
+founding os ms flags s memory n x = foundOf (numberIn (freeBacking ms)) flags s memory n (placeAt os ms s (fixed flags) n x)
 
 unfoldable pub mapEdit : ℕ → List Object → List Mapping → MapFields → Edit
 mapEdit limit os ms c =
-    settle (first (mapChecks limit os ms c) 0) (mapped (found (freeMapping ms)) (founding os ms (c .flags) (c .space) (c .memory) (c .length) (c .address)))
+    settle (first (mapChecks limit os ms c) 0) (mapped (freeMapping ms) (founding os ms (c .flags) (c .space) (c .memory) (c .length) (c .address)))
 
 -- ---- the command, for any table and any bytes
 

@@ -1,7 +1,7 @@
 -- Reach, read or write: no device 2; not attached 22; length 0: 22; past U64MAX 75; not wholly inside one mapping 14; right missing 1; else memory start +
 -- (address - mapping address).
 use Prim.Native.Nat.{ℕ, zero, suc, _+_, _-_}
-use mathlib.Core.Bool.{Bool, true, false, not, _&&_, cond}
+use mathlib.Core.Bool.{Bool, true, false, not, _&&_}
 use mathlib.Core.List.{List, [], _∷_, _++_, map}
 use mathlib.Core.Option.{Option, none, some}
 use lib.Dec.{eqb}

@@ -7,9 +7,10 @@ use lib.ListN.{length, getD, drop}
 use Rattle.lists.specs.Search.{find, find-found, find-on, find-end}
 use Rattle.rules_table.specs.declared.Mapping.{Mapping}
 use Rattle.rules_table.specs.Records.{zeroMapping}
-use Rattle.rules_calls.specs.declared.Source.{Source}
-use Rattle.rules_calls.specs.declared.Source.the-variants.{Missing, Mapped}
-use Rattle.rules_calls.specs.Copy.{isSource, sourceOf, sourced}
+use Rattle.scan.specs.declared.Source.{Source}
+use Rattle.scan.specs.declared.Source.the-variants.{Missing, Mapped}
+use Rattle.rules_calls.specs.Copy.{isSource, sourceOf}
+use Rattle.scan.specs.Sourced.{sourced}
 
 unfoldable pub sourceLeft : ℕ → List Mapping → ℕ → ℕ → ℕ → Source
 sourceLeft i ms s a n = sourced (find (isSource s a n) (drop i ms))

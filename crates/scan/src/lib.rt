@@ -12,12 +12,18 @@ ghost use Rattle.rangelists.specs.Listed.{found};
 ghost use Rattle.rules_table.specs.Records.{touches};
 ghost use Rattle.records.specs.Alone.{numbered};
 ghost use Rattle.scan.specs.Surveyed.{freeAfter, foundAt, surveyOf};
-ghost use Rattle.rules_calls.specs.Copy.{isSource, sourceOf, sourced};
+ghost use Rattle.rules_calls.specs.Copy.{isSource, sourceOf};
 ghost use Rattle.scan.specs.Removed.{short, removalOf};
+ghost use Rattle.scan.specs.Sourced.{sourced};
 use rangelists::Found;
 use ranges::Range;
-use rules_calls::Source;
 use rules_table::Mapping;
+
+// The mapping that a COPY names.
+pub enum Source {
+    Missing,
+    Mapped(Mapping),
+}
 
 // For MAP and COPY: the lowest released record, the lowest backing number that is not in use, and the charge.
 pub struct Survey {

@@ -11,7 +11,7 @@ refuse-if-requires : tie.Need-refuse-if-requires
 refuse-if-requires c κs = search needs
 
 returns : tie.Need-returns
-returns c = record-is _ _ _ (c .before .is-found .ensures) (c .refuse-if .ensures)
+returns c = record-is (c .before .before .args .free) _ _ (c .before .is-found .ensures) (c .refuse-if .ensures)
 
 pub record-errno-spec : {M : Type 1} → statement M
 record-errno-spec = tie.close (tie.spec is-found-requires refuse-if-requires returns)

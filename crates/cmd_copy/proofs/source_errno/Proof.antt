@@ -23,7 +23,7 @@ refuse-if-requires-2 : tie.Need-refuse-if-requires-2
 refuse-if-requires-2 c κs = search needs
 
 returns : tie.Need-returns
-returns c = source-is _ _ (c .before .before .before .before .source-mapping .result) _ _ _ _ _ (c .before .before .before .before .before .is-missing .ensures) (c .before .before .before .before .source-mapping .ensures) (c .before .before .before .is-writeable .ensures) (c .before .before .both .ensures) (c .before .refuse-if .ensures) (c .refuse-if2 .ensures)
+returns c = source-is (c .before .before .before .before .before .before .args .flags) (c .before .before .before .before .before .before .args .o) (c .before .before .before .before .source-mapping .result) _ _ _ _ _ (c .before .before .before .before .before .is-missing .ensures) (c .before .before .before .before .source-mapping .ensures) (c .before .before .before .is-writeable .ensures) (c .before .before .both .ensures) (c .before .refuse-if .ensures) (c .refuse-if2 .ensures)
 
 pub source-errno-spec : {M : Type 1} → statement M
 source-errno-spec =

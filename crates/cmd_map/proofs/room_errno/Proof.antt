@@ -17,7 +17,7 @@ refuse-if-requires-2 : tie.Need-refuse-if-requires-2
 refuse-if-requires-2 c κs = search needs
 
 returns : tie.Need-returns
-returns c = room-is _ _ _ _ _ _ _ _ (c .before .before .before .is-found .ensures) (c .before .before .over-limit .ensures) (c .before .refuse-if .ensures) (c .refuse-if2 .ensures)
+returns c = let a = c .before .before .before .before .args in room-is (a .free) (a .limit) (a .charge) (a .pages) _ _ _ _ (c .before .before .before .is-found .ensures) (c .before .before .over-limit .ensures) (c .before .refuse-if .ensures) (c .refuse-if2 .ensures)
 
 pub room-errno-spec : {M : Type 1} → statement M
 room-errno-spec =

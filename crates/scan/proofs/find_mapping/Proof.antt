@@ -5,10 +5,11 @@ use Prim.Native.Nat.{_-_, _≤_}
 use mathlib.Core.Path.{_≡_, sym, _∙_}
 use lib.ListN as list
 use Rattle.lists.specs.Update.{length-mapped}
-use Rattle.rules_calls.specs.Copy.{sourceOf, sourced}
+use Rattle.rules_calls.specs.Copy.{sourceOf}
 use Rattle.scan.proofs.Sourcing.{sourceLeft, source-start, source-found, source-on, source-end}
 use Rattle.scan.proofs.find_mapping.Statement.{statement}
 use Rattle.scan.proofs.find_mapping.Tie as tie
+use Rattle.scan.specs.Sourced.{sourced}
 
 abbrev Inv-loop : tie.InvT-loop
 Inv-loop s address length ms i₀ i = (i ≤ 128) × (list.length ms ≡ 128) × (sourceLeft i ms s address length ≡ sourced (sourceOf ms s address length))
