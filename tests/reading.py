@@ -13,7 +13,7 @@ import re
 import sys
 
 ROOT = os.path.join(os.path.dirname(os.path.abspath(__file__)), '..')
-MOST = 1120
+MOST = 1000
 # the public contracts: a crate and its functions, or all that it exports
 CONTRACTS = [('boundary', None), ('iommufd', ['fresh', 'call', 'bind', 'attach', 'detach', 'reach'])]
 # README's table whose theorems are followed
@@ -25,16 +25,16 @@ LAWS = 'Laws'
 # the order to read in: document 01's. The ground is looked up where a rule cites it
 ORDER = [
     ('Commands, bytes, numbers', 'Commands and their bytes; Errno numbers', ['rules_calls/src/lib.rt', 'rules_calls/specs/Requests.antt', 'rules_calls/specs/Opening.antt', 'rules_table/specs/Flags.antt', 'rules_calls/specs/Results.antt']),
-    ('The table', 'Table', ['rules_table/src/lib.rt', 'rules_table/specs/Records.antt', 'rules_table/specs/Spaces.antt', 'rules_table/specs/Charge.antt']),
+    ('The table', 'Table', ['rules_table/specs/Limits.antt', 'rules_table/src/lib.rt', 'rules_table/specs/Records.antt', 'rules_table/specs/Spaces.antt', 'rules_table/specs/Charge.antt']),
     ('A bad table', '"A table is bad, and every call on it answers 117"', ['rules_table/specs/Fits.antt', 'rules_table/specs/Good.antt', 'rules_calls/specs/Gate.antt']),
     ('What a call changes and gives back', '"A refusal writes nothing"', ['rules_calls/specs/Edits.antt', 'rules_calls/specs/Answers.antt']),
     ('MAP, COPY, UNMAP', 'Rules of the commands', ['rules_calls/specs/Landing.antt', 'rules_calls/specs/Map.antt', 'rules_calls/specs/Copy.antt', 'rules_calls/specs/Unmap.antt']),
     ('ALLOW_IOVAS, IOVA_RANGES, IOAS_ALLOC, DESTROY', 'Rules of the commands', ['rules_calls/specs/Allow.antt', 'rules_calls/specs/Ranges.antt', 'rules_calls/specs/Objects.antt']),
     ('Bind, attach, detach, reach', 'Host calls', ['rules_calls/specs/Bind.antt', 'rules_calls/specs/Attach.antt', 'rules_calls/specs/Reach.antt', 'rules_calls/specs/Orders.antt']),
-    ('The door', '"Opening a command, in order"', ['rules_calls/specs/Call.antt']),
+    ('The door', '"Opening a command, in order"', ['rules_calls/specs/Call.antt', 'rules_calls/specs/Named.antt']),
     ('Sequences of calls', "Demand 3's ledger", ['rules_history/specs/Calls.antt', 'rules_history/specs/Ledger.antt', 'rules_history/specs/Told.antt']),
     ('Isolation', '"A call on one space changes no mapping, list or device of another"', ['rules_table/specs/Untouched.antt', 'rules_history/specs/Alike.antt']),
-    ("The caller's memory", '"A lent slice of mapping records"', ['rules_table/specs/Layout.antt', 'rules_lent/src/lib.rt', 'rules_lent/specs/Records.antt', 'rules_lent/specs/Lent.antt', 'rules_lent/specs/Entries.antt', 'rules_lent/specs/Sequence.antt']),
+    ("The caller's memory", '"A lent slice of mapping records"', ['rules_table/specs/Layout.antt', 'rules_lent/src/lib.rt', 'rules_lent/specs/Lent.antt', 'rules_lent/specs/Entries.antt', 'rules_lent/specs/Sequence.antt']),
 ]
 
 NAME = r'[^\s(){}.;,@"«»]+'
@@ -311,7 +311,7 @@ def reading(texts):
     out = ['# What to read', '']
     out += ['Made by `python3 tests/reading.py`; the gate fails where it is not what the script makes. Whoever wants to believe the public contracts and the first theorems of `README.md` has to read what is listed here, and nothing else: these definitions, the',
             'contracts and the statements themselves. Each name was followed to its definition and on from there. Laws, proofs and code are not in the list: the prover has them. What comes from the kit (numbers, lists, booleans) is not either.', '']
-    out += [f'- The contracts of {", ".join(f"`{f}`" for f in functions)}: **{many(len(under), "definition")}, {size(tree, under):,} lines** in {many(len(by_file(tree, under)), "file")}, types included. The gate allows {MOST:,}; the aim is 1,000.',
+    out += [f'- The contracts of {", ".join(f"`{f}`" for f in functions)}: **{many(len(under), "definition")}, {size(tree, under):,} lines** in {many(len(by_file(tree, under)), "file")}, types included. The gate allows {MOST:,}.',
             f'- The statements of {many(len(theorems), "theorem")} ({", ".join(f"`{n}`" for n, _ in theorems)}): {many(len(stated), "definition")}, {size(tree, stated):,} lines, of which the contracts do not need {many(len(more | beside), "definition")}, {size(tree, more | beside):,} lines.', '']
     out += ['## By crate', '', '| crate | floor | under the contracts | lines | only under the theorems | lines |', '|---|---|---|---|---|---|']
     for f in floors(texts['crates.txt']):
@@ -414,13 +414,13 @@ def faults(texts):
     moved['crates/rules_calls/specs/Signs.antt'] = texts[results]
     cases = [
         ('a contract that cites a definition of the code', slip('crates/iommufd/src/lib.rt', ('a ≡ freshAnswer limit', 'a ≡ firstId freshAnswer limit'))),
-        ('a rule that cites a definition of the code', slip(answers, ('use lib.IntN.{ℤ, pos}\n', 'use lib.IntN.{ℤ, pos}\nuse Rattle.lent_calls.specs.Lent.{objectOf}\n'), ('table = applied t e }', 'table = objectOf t e }'))),
+        ('a rule that cites a definition of the code', slip(answers, ('use lib.IntN.{ℤ, pos, negsuc}\n', 'use lib.IntN.{ℤ, pos, negsuc}\nuse Rattle.lent_calls.specs.Lent.{objectOf}\n'), ('table = applied t e }', 'table = objectOf t e }'))),
         ('a theorem that cites a definition of the code', slip('crates/laws_refusal/specs/BadTable.antt', ('pub bad-117 : (c : Call)', 'pub bad-117 : (c : firstId)'), ('use Rattle.rules_history', 'use Rattle.iommufd.specs.Deciding.{firstId}\nuse Rattle.rules_history'))),
         ('a function that is gone', slip('crates/iommufd/src/lib.rt', ('pub fn detach(', 'pub fn let_go('))),
-        ('a function without a contract', slip('crates/iommufd/src/lib.rt', ('ensures { λ a. ⌜ a ≡ detachCall', 'promises { λ a. ⌜ a ≡ detachCall'))),
+        ('a function without a contract', slip('crates/iommufd/src/lib.rt', ('ensures { λ a. ⌜ a ≡ outcome t (hostEdit t (detachOrder', 'promises { λ a. ⌜ a ≡ outcome t (hostEdit t (detachOrder'))),
         ('a theorem that is not in the file named', slip('README.md', ('| `demand-3` |', '| `demand-4` |'))),
         ('a file without a place in the order', moved),
-        ('more lines than are wanted', slip(answers, ('refusedBy t errno =', 'refusedBy t errno =' + '\n    t' * 100))),
+        ('more lines than are wanted', slip(answers, ('outcome t e =', 'outcome t e =' + '\n    t' * 100))),
     ]
     for what, case in cases:
         try:

@@ -1,7 +1,7 @@
 -- The highest of several pages (document 01, "Alignment of a space"): a number is a multiple of it exactly if it is one of each.
 use Prim.Native.Nat.{ℕ, zero, suc, _+_, _-_, _%_, _^_, _≤_, _<_, max}
 use mathlib.Core.Path.{_≡_, refl, sym, ap, _∙_}
-use mathlib.Core.Bool.{Bool, true, false, _&&_}
+use mathlib.Core.Bool.{Bool, true, _&&_}
 use mathlib.Core.List.{List, [], _∷_}
 use native.Mathlib.Nat.{mod-mod-of-dvd, dvd-mul-right, mod-one, zero-mod, not-suc-le-zero, le-of-suc-le-suc}
 use native.Mathlib.Omega.{arith}

@@ -1,7 +1,8 @@
 -- Multiples of an alignment (document 01, MAP: "address or address + length not a multiple of the alignment"), and the lowest from a number on.
-use Prim.Native.Nat.{ℕ, zero, suc, _+_, _-_, _*_, _/_, _%_, _≤_, _<_}
+use Prim.Native.Nat.{ℕ, _+_, _-_, _*_, _/_, _%_, _≤_, _<_}
 use mathlib.Core.Path.{_≡_, refl, sym, ap, _∙_}
 use mathlib.Core.Bool.{Bool, true, false, _&&_, cond}
+use mathlib.Core.Option.{Option, none, some}
 use mathlib.Core.Logic.{⊎-elim}
 use native.Mathlib.Nat.{mod-zero, mod-lt, mod-self, mod-add-mod, add-mul, one-mul, div-add-mod', mod-eq-of-lt, eq-zero-or-pos, mul-mod-left, mul-le-mul-right, lt-of-mul-lt-mul-right}
 use native.Mathlib.Omega.{arith}
@@ -54,6 +55,17 @@ lowest-unique P Nowhere Nowhere h k = refl
 lowest-unique P Nowhere (At y) h k = absurd (h y (k .0))
 lowest-unique P (At x) Nowhere h k = absurd (k x (h .0))
 lowest-unique P (At x) (At y) h k = let e : x ≡ y = omega (arith, h .1 y (k .0), k .1 x (h .0)) in ap At e
+
+-- what was looked for, as the code's enum has it
+abbrev pub spotOf : Option ℕ → Spot
+spotOf none = Nowhere
+spotOf (some x) = At x
+
+pub lowest-one : (P : ℕ → Type 0) (r s : Option ℕ) → Lowest P (spotOf r) → Lowest P (spotOf s) → r ≡ s
+lowest-one P none none h k = refl
+lowest-one P none (some y) h k = absurd (h y (k .0))
+lowest-one P (some x) none h k = absurd (k x (h .0))
+lowest-one P (some x) (some y) h k = let e : x ≡ y = omega (arith, h .1 y (k .0), k .1 x (h .0)) in ap some e
 
 -- y is a multiple of a, at or above x and below 2^64
 pub record MultipleFrom (a x y : ℕ) : Type 0 where

@@ -9,14 +9,41 @@ use lib.ListN.{replicate}
 use Rattle.lists.specs.Search.{all}
 use Rattle.ranges.specs.Ranges.{U64MAX}
 use Rattle.wire.specs.Fields.{put}
+use Rattle.rangelists.specs.declared.Reserved.{Reserved}
 use Rattle.rules_history.specs.Calls.{Command, Bind, Attach}
-use Rattle.laws_examples.specs.Plan.{u32, u64, planReserved}
-use Rattle.laws_examples.specs.Commands.{read, readFixed, write, mapCommand, copyCommand, unmapCommand}
 use Rattle.bench_set.specs.Rows.{Row, Case, caseHolds}
 use Rattle.bench_set.specs.Computing.{running}
 
--- ---- commands from their fields. `mapCommand flags space memory length address`, `copyCommand flags target source length address from`,
--- `unmapCommand space address length`; `read`, `readFixed` and `write` are flags
+-- ---- commands from their fields
+
+-- numbers as bytes
+abbrev pub u32 : ℕ → List ℕ
+u32 n = put 4 (replicate 4 0) 0 n
+
+abbrev pub u64 : ℕ → List ℕ
+u64 n = put 8 (replicate 8 0) 0 n
+
+-- flags: readable; readable at a fixed address; writeable
+abbrev pub read : ℕ
+read = 4
+
+abbrev pub readFixed : ℕ
+readFixed = 5
+
+abbrev pub write : ℕ
+write = 2
+
+-- MAP: size, flags, space, reserved, memory, length, address
+abbrev pub mapCommand : ℕ → ℕ → ℕ → ℕ → ℕ → List ℕ
+mapCommand flags space memory n address = u32 40 ++ (u32 flags ++ (u32 space ++ (u32 0 ++ (u64 memory ++ (u64 n ++ u64 address)))))
+
+-- COPY: size, flags, target, source, length, target address, source address
+abbrev pub copyCommand : ℕ → ℕ → ℕ → ℕ → ℕ → ℕ → List ℕ
+copyCommand flags target source n address from = u32 40 ++ (u32 flags ++ (u32 target ++ (u32 source ++ (u64 n ++ (u64 address ++ u64 from)))))
+
+-- UNMAP: size, space, address, length
+abbrev pub unmapCommand : ℕ → ℕ → ℕ → List ℕ
+unmapCommand space address n = u32 24 ++ (u32 space ++ (u64 address ++ u64 n))
 
 -- IOAS_ALLOC: size, flags, out id
 abbrev pub allocCommand : ℕ → List ℕ
@@ -56,6 +83,9 @@ abbrev pub newSpace : ℕ → Row
 newSpace id = accepts 0x3B81 (allocCommand 7) (allocCommand id) 0
 
 -- the plan's device (bitmap 4,096; reserved 0xFEE00000 to 0xFEEFFFFF) is bound, with the id 2, and attached to space 1
+abbrev pub planReserved : Reserved
+planReserved = record { count = 1; starts = 0xFEE00000 ∷ 0 ∷ 0 ∷ 0 ∷ []; lasts = 0xFEEFFFFF ∷ 0 ∷ 0 ∷ 0 ∷ [] }
+
 abbrev pub bound : Row
 bound = record { call = Bind 4096 planReserved; result = pos 2; bytes = []; area = []; charge = 0 }
 

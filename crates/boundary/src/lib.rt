@@ -3,8 +3,8 @@
 ghost use Rattle.rules_calls.specs.Orders.{bindOrder, attachOrder, detachOrder, reachOrder, chargeOrder};
 ghost use Rattle.rules_table.specs.Layout.{reservedFrom};
 ghost use Rattle.rules_lent.specs.Entries.{LentCall, Preview, LentHost, LentTold, LentFresh, isWrite};
+use lent_records::Records;
 use rules_lent::Number;
-use rules_lent::Records;
 use rules_table::Head;
 use rules_table::Mapping;
 use rules_table::RawReserved;
@@ -57,7 +57,7 @@ pub extern "C" fn iommufd_preview(
     cmd: &mut [u8],
     area: &mut [u8],
 ) -> i32
-    ensures { λ r. ⌜ Preview (now (h .entry)) (now (ms .entry)) request (now (cmd .entry)) (now (area .entry)) r (now (cmd .exit)) (now (area .exit)) ⌝ }
+    ensures { λ r. ⌜ Preview (now (h .entry)) (now (ms .entry)) request (now (cmd .entry)) (now (area .entry)) r (now (h .exit)) (now (ms .exit)) (now (cmd .exit)) (now (area .exit)) ⌝ }
 {
     if ms.len() != RECORDS {
         return -117;
@@ -108,7 +108,7 @@ pub extern "C" fn iommufd_reach(
     length: u64,
     write: u32,
 ) -> Number
-    ensures { λ n. ⌜ LentTold (now (h .entry)) (now (ms .entry)) (reachOrder device address length (isWrite write)) n ⌝ }
+    ensures { λ n. ⌜ LentTold (now (h .entry)) (now (ms .entry)) (reachOrder device address length (isWrite write)) n (now (h .exit)) (now (ms .exit)) ⌝ }
 {
     lent_calls::look(
         h,
@@ -120,7 +120,7 @@ pub extern "C" fn iommufd_reach(
 // The pages of all backings, each once.
 #[no_mangle]
 pub extern "C" fn iommufd_charge(h: &Head, ms: &[Mapping]) -> Number
-    ensures { λ n. ⌜ LentTold (now (h .entry)) (now (ms .entry)) chargeOrder n ⌝ }
+    ensures { λ n. ⌜ LentTold (now (h .entry)) (now (ms .entry)) chargeOrder n (now (h .exit)) (now (ms .exit)) ⌝ }
 {
     lent_calls::look(h, ms, host_calls::charge_order())
 }

@@ -10,7 +10,7 @@ use Rattle.rules_table.specs.declared.Object.{Object}
 use Rattle.rules_table.specs.declared.Mapping.{Mapping}
 use Rattle.rules_table.specs.Charge.{charge, freeMapping, freeBacking}
 use Rattle.rules_calls.specs.declared.Edit.{Edit}
-use Rattle.rules_calls.specs.Edits.{refuse}
+use Rattle.rules_calls.specs.Edits.{refuse, numberIn}
 use Rattle.edits.specs.Settled.{settle-refused, settle-taken}
 use Rattle.scan.specs.declared.Survey.{Survey}
 use Rattle.scan.specs.Surveyed.{surveyOf}
@@ -18,7 +18,7 @@ use Rattle.landing.specs.declared.Target.{Target}
 use Rattle.landing.specs.declared.Placing.{Placing}
 use Rattle.rules_calls.specs.Landing.{placeChecks}
 use Rattle.landing.specs.Placing.{Placed}
-use Rattle.rules_calls.specs.Map.{numberIn, mapped, roomChecks, foundOf, founding, mapEdit, mapNumberChecks, mapChecks}
+use Rattle.rules_calls.specs.Map.{mapped, roomChecks, foundOf, founding, mapEdit, mapNumberChecks, mapChecks}
 use Rattle.cmd_map.proofs.Staging.{stage-refused, stage-passed, place-refuse}
 use Rattle.edits.specs.Numbers.{mapNumberChecksAt, mapChecksAt, mapEditAt, optionOf, option-found}
 

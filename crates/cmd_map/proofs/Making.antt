@@ -22,11 +22,11 @@ use Rattle.rules_table.specs.Records.{freeObject, spaceAt}
 use Rattle.rules_table.specs.Charge.{backs, freeBacking}
 use Rattle.rules_calls.specs.declared.Change.the-variants.{Map}
 use Rattle.rules_calls.specs.declared.Edit.{Edit}
-use Rattle.rules_calls.specs.Edits.{refuse, accept, isNone}
+use Rattle.rules_calls.specs.Edits.{refuse, accept, isNone, numberIn}
 use Rattle.edits.specs.Settled.{checked, checked-last}
 use Rattle.scan.specs.declared.Survey.{Survey}
 use Rattle.scan.specs.Surveyed.{surveyOf}
-use Rattle.rules_calls.specs.Map.{rightsOf, numberIn, mapped, noRight, wrongLength, fixedPasses, roomChecks, foundOf, mapNumberChecks}
+use Rattle.rules_calls.specs.Map.{rightsOf, mapped, noRight, wrongLength, fixedPasses, roomChecks, overLimit, foundOf, mapNumberChecks}
 use Rattle.edits.specs.Numbers.{mapNumberChecksAt, optionOf, option-found, none-found}
 
 pub rights-are : (flags p q : ℕ) (w r : Bool) → w ≡ bit 1 flags → p ≡ onlyIf w 1 → r ≡ bit 2 flags → q ≡ onlyIf r 2 → p + q ≡ rightsOf flags
@@ -84,18 +84,20 @@ numbers-are os flags s z memory n x r1 r2 r3 r4 r5 r6 un u nr wr pa fi kn eun eu
     (checked-last (not kn) (not (spaceAt os s)) 2 r1 0 e1 (ap (λ (b : Bool). not b) ekn))))))
 
 module _ (limit charge pages : ℕ) where
-  pub over : limit < charge + pages → true ≡ ltb limit (charge + pages)
+  pub over : limit < charge + pages → true ≡ overLimit limit charge pages
+  unfolding overLimit
   over h = sym (lt-ltb limit (charge + pages) h)
 
   -- equal to the limit is allowed
-  pub not-over : charge + pages ≤ limit → false ≡ ltb limit (charge + pages)
+  pub not-over : charge + pages ≤ limit → false ≡ overLimit limit charge pages
+  unfolding overLimit
   not-over h = sym (le-ltb limit (charge + pages) h)
 
-pub room-is : (free : Found) (limit charge pages r1 r2 : ℕ) (sm over : Bool) → sm ≡ isFound free → over ≡ ltb limit (charge + pages) → r1 ≡ first (when over 12 ∷ []) 0 → r2 ≡ first (when (not sm) 12 ∷ []) r1
+pub room-is : (free : Found) (limit charge pages r1 r2 : ℕ) (sm over : Bool) → sm ≡ isFound free → over ≡ overLimit limit charge pages → r1 ≡ first (when over 12 ∷ []) 0 → r2 ≡ first (when (not sm) 12 ∷ []) r1
     → r2 ≡ first (roomChecks (optionOf free) limit charge pages) 0
 unfolding roomChecks
 room-is free limit charge pages r1 r2 sm over es eo e1 e2 =
-    checked (not sm) (isNone (optionOf free)) 12 r2 r1 0 _ e2 (ap (λ (b : Bool). not b) es ∙ none-found free) (checked-last over (ltb limit (charge + pages)) 12 r1 0 e1 eo)
+    checked (not sm) (isNone (optionOf free)) 12 r2 r1 0 _ e2 (ap (λ (b : Bool). not b) es ∙ none-found free) (checked-last over (overLimit limit charge pages) 12 r1 0 e1 eo)
 
 pub found-is : (backing flags s memory n x rights founder : ℕ) (w : Bool) → rights ≡ rightsOf flags → w ≡ bit 1 flags → founder ≡ onlyIf w 1
     → _≡_ {A = Mapping} record { space = s; rights = rights; founder = founder; backing = backing; address = x; length = n; memory = memory } (foundOf backing flags s memory n x)

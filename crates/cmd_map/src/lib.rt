@@ -12,7 +12,8 @@ ghost use Rattle.rules_table.specs.Records.{spaceAt};
 ghost use Rattle.table.specs.Checked.{recordOk};
 ghost use Rattle.digests.specs.Digest.{Seen};
 ghost use Rattle.landing.specs.Placing.{Placed};
-ghost use Rattle.rules_calls.specs.Map.{rightsOf, numberIn, mapped, noRight, wrongLength, fixedPasses, roomChecks, foundOf};
+ghost use Rattle.rules_calls.specs.Edits.{numberIn};
+ghost use Rattle.rules_calls.specs.Map.{rightsOf, mapped, noRight, wrongLength, fixedPasses, roomChecks, overLimit, foundOf};
 ghost use Rattle.edits.specs.Numbers.{mapNumberChecksAt, mapEditAt, optionOf};
 use digests::Digest;
 use landing::Placing;
@@ -129,7 +130,7 @@ fn map_number_errno(known: bool, t: Target, zero: u32, memory: u64) -> u8
 
 // Whether so many pages more would pass the limit. No sum is made.
 fn over_limit(limit: u64, charge: u64, pages: u64) -> bool
-    ensures { λ b. ⌜ b ≡ ltb limit (charge + pages) ⌝ }
+    ensures { λ b. ⌜ b ≡ overLimit limit charge pages ⌝ }
 {
     if limit < charge {
         return true;

@@ -11,10 +11,9 @@ ghost use Rattle.rules_table.specs.Records.{spaceAt};
 ghost use Rattle.table.specs.Checked.{recordOk};
 ghost use Rattle.rules_calls.specs.Answers.{replied};
 ghost use Rattle.digests.specs.Digest.{Seen};
-ghost use Rattle.rules_calls.specs.Gate.{tableWith};
-ghost use Rattle.rules_calls.specs.Unmap.{unmapDecided};
-ghost use Rattle.rules_calls.specs.Copy.{copyDecided};
-ghost use Rattle.rules_calls.specs.Map.{mapDecided};
+ghost use Rattle.rules_calls.specs.Map.{mapFields, mapEdit};
+ghost use Rattle.rules_calls.specs.Copy.{copyFields, copyEdit};
+ghost use Rattle.rules_calls.specs.Unmap.{unmapFields, unmapEdit};
 use digests::Digest;
 use landing::Target;
 use rules_calls::Edit;
@@ -33,7 +32,7 @@ fn write_value(cmd: &mut [u8], off: usize, errno: u8, value: u64)
 // MAP: a new mapping with a backing of its own. Its address is written, also where it was fixed.
 pub fn map(limit: u64, d: Digest, ms: [Mapping; 128], cmd: &mut [u8]) -> Edit
     requires { ⌜ (40 ≤ length (now cmd)) × ((os : List Object) × Each (λ m. recordOk os m ≡ true) ms) ⌝ }
-    ensures { λ e. ⌜ ((os : List Object) (b : ℕ) → Seen os (field 4 (now (cmd .entry)) 8) b d → e ≡ mapDecided (tableWith limit os ms) (now (cmd .entry))) × (now (cmd .exit) ≡ replied 8 32 (e .errno) (e .value) (now (cmd .entry))) ⌝ }
+    ensures { λ e. ⌜ ((os : List Object) (b : ℕ) → Seen os (field 4 (now (cmd .entry)) 8) b d → e ≡ mapEdit limit os ms (mapFields (now (cmd .entry)))) × (now (cmd .exit) ≡ replied 8 32 (e .errno) (e .value) (now (cmd .entry))) ⌝ }
 {
     let target = Target {
         space: wire::read32(cmd, 8),
@@ -51,7 +50,7 @@ pub fn map(limit: u64, d: Digest, ms: [Mapping; 128], cmd: &mut [u8]) -> Edit
 // COPY: a mapping of a source's memory and backing in a target space.
 pub fn copy(d: Digest, ms: [Mapping; 128], cmd: &mut [u8]) -> Edit
     requires { ⌜ (40 ≤ length (now cmd)) × ((os : List Object) × Each (λ m. recordOk os m ≡ true) ms) ⌝ }
-    ensures { λ e. ⌜ ((limit : ℕ) (os : List Object) → Seen os (field 4 (now (cmd .entry)) 8) (field 4 (now (cmd .entry)) 12) d → e ≡ copyDecided (tableWith limit os ms) (now (cmd .entry))) × (now (cmd .exit) ≡ replied 8 24 (e .errno) (e .value) (now (cmd .entry))) ⌝ }
+    ensures { λ e. ⌜ ((os : List Object) → Seen os (field 4 (now (cmd .entry)) 8) (field 4 (now (cmd .entry)) 12) d → e ≡ copyEdit os ms (copyFields (now (cmd .entry)))) × (now (cmd .exit) ≡ replied 8 24 (e .errno) (e .value) (now (cmd .entry))) ⌝ }
 {
     let target = Target {
         space: wire::read32(cmd, 8),
@@ -69,7 +68,7 @@ pub fn copy(d: Digest, ms: [Mapping; 128], cmd: &mut [u8]) -> Edit
 // UNMAP: the mappings inside a range go, or all of the space. Their bytes are written.
 pub fn unmap(known: bool, ms: [Mapping; 128], cmd: &mut [u8]) -> Edit
     requires { ⌜ (24 ≤ length (now cmd)) × ((os : List Object) × Each (λ m. recordOk os m ≡ true) ms) ⌝ }
-    ensures { λ e. ⌜ ((limit : ℕ) (os : List Object) → known ≡ spaceAt os (field 4 (now (cmd .entry)) 4) → e ≡ unmapDecided (tableWith limit os ms) (now (cmd .entry))) × (now (cmd .exit) ≡ replied 8 16 (e .errno) (e .value) (now (cmd .entry))) ⌝ }
+    ensures { λ e. ⌜ ((os : List Object) → known ≡ spaceAt os (field 4 (now (cmd .entry)) 4) → e ≡ unmapEdit os ms (unmapFields (now (cmd .entry)))) × (now (cmd .exit) ≡ replied 8 16 (e .errno) (e .value) (now (cmd .entry))) ⌝ }
 {
     let space = wire::read32(cmd, 4);
     let address = wire::read64(cmd, 8);

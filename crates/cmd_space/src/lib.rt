@@ -35,7 +35,7 @@ pub fn decide_alloc(free: Found, flags: u32) -> Edit
         return edits::refusal(errno);
     }
     let object = edits::new_space();
-    edits::place_new(free, object)
+    edits::add_new(free, object)
 }
 
 fn removal_of(k: Kind, i: usize) -> Change

@@ -10,9 +10,9 @@ use Rattle.rules_table.specs.declared.Object.{Object}
 use Rattle.rules_table.specs.Records.{newSpace}
 use Rattle.rules_table.specs.Charge.{freeRecord}
 use Rattle.rules_calls.specs.declared.Edit.{Edit}
-use Rattle.rules_calls.specs.Edits.{settle, placed}
+use Rattle.rules_calls.specs.Edits.{settle, added}
 use Rattle.rules_calls.specs.Answers.{replied}
-use Rattle.edits.specs.Kept.{placed-value}
+use Rattle.edits.specs.Kept.{added-value}
 use Rattle.rules_calls.specs.Objects.{allocChecks, allocEdit}
 use Rattle.edits.specs.Numbers.{allowEditAt}
 
@@ -22,8 +22,8 @@ alloc-value : (os : List Object) (flags : ℕ) (e : Edit) → length os ≡ 32 �
 unfolding allocEdit
 alloc-value os flags e l h = rw h (go (first (allocChecks os flags) 0))
   where
-    go : (n : ℕ) → settle n (placed (freeRecord os) newSpace) .value < 256
-    go zero = placed-value os newSpace l
+    go : (n : ℕ) → settle n (added (freeRecord os) newSpace) .value < 256
+    go zero = added-value os newSpace l
     go (suc n) = omega arith
 
 -- the id is written whole

@@ -1,5 +1,5 @@
 -- IOVA_RANGES: the reply, the checks before it, and the gate before them.
-use Prim.Native.Nat.{ℕ, zero, suc, _*_, _≤_, min}
+use Prim.Native.Nat.{ℕ, _*_, _≤_, min}
 use mathlib.Core.Path.{_≡_, refl, sym, ap, _∙_}
 use mathlib.Core.Bool.{Bool, true, false, cond}
 use mathlib.Core.List.{List, [], _∷_}
@@ -7,28 +7,21 @@ use native.Mathlib.Omega.{arith}
 use lib.Dec.{ltb}
 use lib.ListN.{length, take}
 use borrow.Author.Tests.{ltb-false, ne-eqb}
-use Rattle.lists.specs.Tests.{by-test}
 use Rattle.lists.specs.Checks.{when, first, first-each, first-stays, first-goes, Refusals, passed}
 use Rattle.wire.specs.Fields.{field, put}
-use Rattle.rules_calls.specs.declared.Opening.{Opening}
-use Rattle.rules_calls.specs.declared.Opening.the-variants.{UnknownRequest, NoSizeField, SizeTooSmall, SizePastBytes, TailNotZero, Open}
-use Rattle.rules_calls.specs.Opening.{opened, openingErrno}
 use Rattle.blocks.specs.declared.Blocks.{Blocks}
 use Rattle.blocks.specs.Blocked.{blocked, blockedFor-length}
 use Rattle.freeranges.specs.Free.{freeRanges}
 use Rattle.freeranges.specs.Fewest.{free-length}
 use Rattle.freeranges.specs.Written.{putRanges}
 use Rattle.rules_table.specs.declared.Object.{Object}
-use Rattle.rules_table.specs.declared.Table.{Table}
-use Rattle.rules_table.specs.Good.{good}
 use Rattle.rules_table.specs.Spaces.{alignment}
 use Rattle.rules_calls.specs.declared.Edit.{Edit}
 use Rattle.rules_calls.specs.Edits.{refuse}
 use Rattle.facts.specs.Gathered.{Gathered}
-use Rattle.rules_calls.specs.Ranges.{freeOf, repliesTo, rangesBytes, rangesArea, errnoOr, rangesCall, rangesReply, rangesWritten, rangesChecks, rangesErrno}
-use Rattle.rules_calls.specs.Gate.{gateErrno}
+use Rattle.rules_calls.specs.Ranges.{freeOf, repliesTo, rangesBytes, rangesArea, rangesChecks, rangesErrno}
 use Rattle.cmd_space_bytes.specs.Replied.{RangesReply, RangesDone}
-use Rattle.edits.specs.Numbers.{rangesChecksAt, rangesErrnoAt}
+use Rattle.edits.specs.Numbers.{rangesChecksAt}
 
 -- ---- the reply
 
@@ -106,41 +99,3 @@ module _ (os : List Object) (cmd area : List ℕ) where
 
 pub ranges-edit : (os : List Object) (n : ℕ) (e : Edit) (cmd cmd′ area area′ : List ℕ) → e ≡ refuse n → RangesDone os n cmd cmd′ area area′ → (e ≡ refuse (e .errno)) × RangesDone os (e .errno) cmd cmd′ area area′
 ranges-edit os n e cmd cmd′ area area′ k d = rw k (refl, d)
-
--- ---- the gate
-
--- no errno of the gate is 90
-pub gate-90 : (t : Table) (n : ℕ) (bytes : List ℕ) → gateErrno t n bytes ≡ 90 → ⊥
-unfolding gateErrno
-gate-90 t n bytes e = by-test (good t) (λ g. open-90 (opened n bytes) (sym (rw g) ∙ e)) (λ g. let z : _≡_ {A = ℕ} 117 90 = sym (rw g) ∙ e in omega (arith, z))
-  where
-    open-90 : (o : Opening) → openingErrno o ≡ 90 → ⊥
-    open-90 UnknownRequest e = omega (arith, e)
-    open-90 NoSizeField e = omega (arith, e)
-    open-90 SizeTooSmall e = omega (arith, e)
-    open-90 SizePastBytes e = omega (arith, e)
-    open-90 TailNotZero e = omega (arith, e)
-    open-90 (Open c) e = omega (arith, e)
-
-pub errno-refused : (n m k : ℕ) → n ≡ m → (n ≡ 0 → ⊥) → n ≡ errnoOr m k
-errno-refused n zero k e h = absurd (h e)
-errno-refused n (suc m) k e h = e
-
-pub errno-passed : (n m k : ℕ) → n ≡ m → n ≡ 0 → k ≡ errnoOr m k
-errno-passed n zero k e h = refl
-errno-passed n (suc m) k e h = absurd (omega arith)
-
-pub ranges-gated : (t : Table) (cmd area : List ℕ) (n : ℕ) → n ≡ gateErrno t 0x3B84 cmd → (n ≡ 0 → ⊥)
-    → (refuse n ≡ refuse (rangesCall t cmd area)) × (cmd ≡ rangesReply t cmd area) × (area ≡ rangesWritten t cmd area)
-unfolding rangesReply rangesWritten rangesCall
-ranges-gated t cmd area n e h =
-    let same : n ≡ rangesCall t cmd area = errno-refused n (gateErrno t 0x3B84 cmd) (rangesErrnoAt (t .objects) (field 4 cmd 4) (field 4 cmd 8) (field 4 cmd 12) area) e h in
-    let silent : repliesTo (rangesCall t cmd area) ≡ false = rw (← same) (rw (ne-eqb n 0 h) (ne-eqb n 90 (λ y. gate-90 t 0x3B84 cmd (sym e ∙ y)))) in
-    (ap refuse same, sym (rw silent), sym (rw silent))
-
-pub ranges-answered : (t : Table) (cmd area cmd′ area′ : List ℕ) (n : ℕ) → gateErrno t 0x3B84 cmd ≡ 0 → RangesDone (t .objects) n cmd cmd′ area area′
-    → (refuse n ≡ refuse (rangesCall t cmd area)) × (cmd′ ≡ rangesReply t cmd area) × (area′ ≡ rangesWritten t cmd area)
-unfolding rangesReply rangesWritten rangesCall
-ranges-answered t cmd area cmd′ area′ n h d =
-    let same : n ≡ rangesCall t cmd area = d .errno ∙ errno-passed 0 (gateErrno t 0x3B84 cmd) (rangesErrnoAt (t .objects) (field 4 cmd 4) (field 4 cmd 8) (field 4 cmd 12) area) (sym h) refl in
-    (ap refuse same, d .bytes ∙ rw same, d .ranges ∙ rw same)

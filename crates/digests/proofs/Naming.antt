@@ -6,7 +6,7 @@ use native.Mathlib.Omega.{arith}
 use lib.ListN.{length, getD, length-map}
 use Rattle.rules_table.specs.declared.Object.{Object}
 use Rattle.rules_table.specs.Records.{zeroObject, freeObject, objectAt}
-use Rattle.table.specs.Replaced.{objectAt-place, objectAt-past}
+use Rattle.table.specs.Replaced.{objectAt-slot, objectAt-past}
 use Rattle.rules_table.specs.declared.RawObject.{RawObject}
 use Rattle.rules_table.specs.Layout.{zeroRaw, decoded, encoded}
 use Rattle.layout.specs.Laws.{decoded-at, same-objects}
@@ -22,7 +22,7 @@ module _ (os : List Object) (id : ℕ) where
   object-past o l h e = e ∙ sym (objectAt-past os id (omega arith))
 
   pub object-here : (o : Object) → length os ≡ 32 → (id ≡ 0 → ⊥) → id ≤ 32 → (id ≤ 32 → o ≡ getD os (id - 1) zeroObject) → o ≡ objectAt os id
-  object-here o l h k f = let e : suc (id - 1) ≡ id = omega (arith, h) in f k ∙ sym (objectAt-place os (id - 1) zeroObject (omega (arith, h))) ∙ ap (objectAt os) e
+  object-here o l h k f = let e : suc (id - 1) ≡ id = omega (arith, h) in f k ∙ sym (objectAt-slot os (id - 1) zeroObject (omega (arith, h))) ∙ ap (objectAt os) e
 
 pub named : (rs : List RawObject) (i id : ℕ) (o : Object) → (id ≤ 32 → i ≡ id - 1) → o ≡ decoded (getD rs i zeroRaw) → id ≤ 32 → o ≡ getD (map decoded rs) (id - 1) zeroObject
 named rs i id o f e h = e ∙ ap (λ (k : ℕ). decoded (getD rs k zeroRaw)) (f h) ∙ sym (decoded-at rs (id - 1))

@@ -14,7 +14,7 @@ use Rattle.rules_table.specs.Records.{isFree}
 use Rattle.rules_table.specs.Charge.{freeRecord}
 use Rattle.rules_calls.specs.declared.Edit.{Edit}
 use Rattle.rules_calls.specs.declared.Change.the-variants.{Put}
-use Rattle.rules_calls.specs.Edits.{refuse, accept, placed}
+use Rattle.rules_calls.specs.Edits.{refuse, accept, added}
 
 -- the place found is one of the records
 module _ (os : List Object) (f : Found) (e : f ≡ found (freeRecord os)) where
@@ -22,8 +22,8 @@ module _ (os : List Object) (f : Found) (e : f ≡ found (freeRecord os)) where
   unfolding freeRecord
   free-below i a l = omega (arith, seek-some-lt (λ (o : Object). isFree (o .kind)) 0 os i (from-found (freeRecord os) i (sym e ∙ a)))
 
-  pub placed-at : (i : ℕ) (n : Object) (r : Edit) → f ≡ At i → r ≡ accept (i + 1) (Put i) n → r ≡ placed (freeRecord os) n
-  placed-at i n r a k = k ∙ sym (ap (λ (o : Option ℕ). placed o n) (from-found (freeRecord os) i (sym e ∙ a)))
+  pub placed-at : (i : ℕ) (n : Object) (r : Edit) → f ≡ At i → r ≡ accept (i + 1) (Put i) n → r ≡ added (freeRecord os) n
+  placed-at i n r a k = k ∙ sym (ap (λ (o : Option ℕ). added o n) (from-found (freeRecord os) i (sym e ∙ a)))
 
-  pub placed-nowhere : (n : Object) (r : Edit) → f ≡ Nothing → r ≡ refuse 12 → r ≡ placed (freeRecord os) n
-  placed-nowhere n r a k = k ∙ sym (ap (λ (o : Option ℕ). placed o n) (from-nothing (freeRecord os) (sym e ∙ a)))
+  pub placed-nowhere : (n : Object) (r : Edit) → f ≡ Nothing → r ≡ refuse 12 → r ≡ added (freeRecord os) n
+  placed-nowhere n r a k = k ∙ sym (ap (λ (o : Option ℕ). added o n) (from-nothing (freeRecord os) (sym e ∙ a)))

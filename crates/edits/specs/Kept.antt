@@ -28,12 +28,13 @@ use Rattle.wire.specs.Fields.{zeros}
 use Rattle.table.specs.Checked.{objectOk, recordOk}
 use Rattle.table.specs.Sound.{Sound}
 use Rattle.table.specs.Facts.{UsedOk, record-used, used-record, record-free, zero-record}
-use Rattle.table.specs.Replaced.{Hosts, objects-replaced, hosts-none, none-attached, objectAt-place, spaceAt-set-other}
+use Rattle.table.specs.Replaced.{Hosts, objects-replaced, hosts-none, none-attached, objectAt-slot, spaceAt-set-other}
 use Rattle.table.specs.Moved.{used-replaced, Quiet, quiet-reserved, quiet-fits}
 use Rattle.table.specs.Cleared.{release-true, release-false, release-once, release-agree}
 use Rattle.table.specs.Charged.{release-charge}
 use Rattle.rules_calls.specs.declared.Edit.{Edit}
-use Rattle.rules_calls.specs.Edits.{settle, placed, putObject, dropSpace, applied}
+use Rattle.rules_calls.specs.Edits.{settle, added, applied}
+use Rattle.edits.specs.Parts.{putObject, dropSpace}
 
 -- a released object keeps the rules of objects
 pub free-ok : (os : List Object) → objectOk os freeObject ≡ true
@@ -63,7 +64,7 @@ abbrev pub AllBorne : Table → ℕ → Object → Type 0
 AllBorne t i n = Each (λ m. used m ≡ true → UsedOk (t .objects) m → Bears (t .objects) i n m) (t .mappings)
 
 pub put-sound : (t : Table) (i : ℕ) (n : Object) → Sound t → i < 32 → Hosts (t .objects) i n → objectOk (set (t .objects) i n) n ≡ true → AllBorne t i n → Sound (putObject t i n)
-unfolding putObject
+unfolding applied
 put-sound t i n g h hosts new borne = record {
   objects = objects-replaced (t .objects) i n (rw (g .places) h) (g .objects) hosts new;
   records = Each-zip (λ m. recordOk (t .objects) m ≡ true) (λ m. used m ≡ true → UsedOk (t .objects) m → Bears (t .objects) i n m) (λ m. recordOk (set (t .objects) i n) m ≡ true) (t .mappings)
@@ -100,7 +101,7 @@ record-dropped os i m e =
     quiet-bears os i freeObject m quiet-free (spaceAt-set-other os i freeObject (m .space) (λ z. ne (z ∙ sym (add-one i))) ∙ k .names))))
 
 pub drop-sound : (t : Table) (i : ℕ) → Sound t → i < 32 → any (λ o. attachedTo (suc i) (o .kind)) (t .objects) ≡ false → Sound (dropSpace t i)
-unfolding dropSpace
+unfolding applied
 drop-sound t i g h alone =
     rw (lt-leb 32 i h) (record {
       objects = objects-replaced (t .objects) i freeObject (rw (g .places) h) (g .objects) (hosts-none (t .objects) i freeObject alone) (free-ok (set (t .objects) i freeObject));
@@ -126,14 +127,14 @@ settle-sound t (suc n) e g h = g
 -- ---- a new object in the lowest free record
 
 -- the lowest free record lies in the table, is no space and is attached to none
-pub free-place : (os : List Object) (i : ℕ) → freeRecord os ≡ some i → (i < ListN.length os) × (spaceAt os (suc i) ≡ false) × ((s : ℕ) → attachedTo s (getD os i freeObject .kind) ≡ false)
+pub free-slot : (os : List Object) (i : ℕ) → freeRecord os ≡ some i → (i < ListN.length os) × (spaceAt os (suc i) ≡ false) × ((s : ℕ) → attachedTo s (getD os i freeObject .kind) ≡ false)
 unfolding freeRecord spaceAt
-free-place os i e =
+free-slot os i e =
     let lt = seek-some-lt (λ (o : Object). isFree (o .kind)) 0 os i e in
     let z : i ≡ 0 + i = omega arith in
     let at = seek-some-at (λ (o : Object). isFree (o .kind)) 0 os freeObject i (e ∙ ap some z) in
     let h : i < ListN.length os = omega (arith, lt .1) in
-    (h, ap (λ (o : Object). isSpace (o .kind)) (objectAt-place os i freeObject h) ∙ free-no-space (getD os i freeObject .kind) at, λ s. free-no-device s (getD os i freeObject .kind) at)
+    (h, ap (λ (o : Object). isSpace (o .kind)) (objectAt-slot os i freeObject h) ∙ free-no-space (getD os i freeObject .kind) at, λ s. free-no-device s (getD os i freeObject .kind) at)
   where
     free-no-space : (k : Kind) → isFree k ≡ true → isSpace k ≡ false
     free-no-space Free e = refl
@@ -145,25 +146,25 @@ free-place os i e =
     free-no-device s Space e = refl
     free-no-device s (Device a) e = contrary false e refl
 
--- an object that is attached to nothing and keeps the rules of objects by itself can be placed
-pub placed-sound : (t : Table) (n : Object) → Sound t → Quiet n → ((os : List Object) → objectOk os n ≡ true) → Sound (applied t (placed (freeRecord (t .objects)) n))
+-- an object that is attached to nothing and keeps the rules of objects by itself can be added
+pub added-sound : (t : Table) (n : Object) → Sound t → Quiet n → ((os : List Object) → objectOk os n ≡ true) → Sound (applied t (added (freeRecord (t .objects)) n))
 unfolding applied
-placed-sound t n g q ok = go (freeRecord (t .objects)) refl
+added-sound t n g q ok = go (freeRecord (t .objects)) refl
   where
-    go : (o : Option ℕ) → freeRecord (t .objects) ≡ o → Sound (applied t (placed o n))
+    go : (o : Option ℕ) → freeRecord (t .objects) ≡ o → Sound (applied t (added o n))
     go none e = g
     go (some i) e =
-        let p = free-place (t .objects) i e in
+        let p = free-slot (t .objects) i e in
         put-sound t i n g (omega (arith, p .0, g .places))
         (hosts-none (t .objects) i n (none-attached (t .objects) (suc i) (g .objects) (p .1)))
         (ok (set (t .objects) i n))
         (Each-of _ (t .mappings) (λ m u k. quiet-bears (t .objects) i n m q (elsewhere (t .objects) i n m (p .1) k)))
 
 -- a new id is small
-pub placed-value : (os : List Object) (n : Object) → ListN.length os ≡ 32 → placed (freeRecord os) n .value < 256
+pub added-value : (os : List Object) (n : Object) → ListN.length os ≡ 32 → added (freeRecord os) n .value < 256
 unfolding freeRecord
-placed-value os n l = go (freeRecord os) refl
+added-value os n l = go (freeRecord os) refl
   where
-    go : (o : Option ℕ) → freeRecord os ≡ o → placed o n .value < 256
+    go : (o : Option ℕ) → freeRecord os ≡ o → added o n .value < 256
     go none e = omega arith
     go (some i) e = let p = seek-some-lt (λ (o : Object). isFree (o .kind)) 0 os i e in omega (arith, p .1)

@@ -24,7 +24,8 @@ use Rattle.table.specs.Sound.{Backing, Agree, Sound}
 use Rattle.table.specs.Facts.{UsedOk, used-record}
 use Rattle.lists.specs.Counting.{countOf-none}
 use Rattle.table.specs.Cleared.{release-records, release-agree, release-once}
-use Rattle.rules_calls.specs.Edits.{putMapping, clearInside}
+use Rattle.rules_calls.specs.Edits.{applied}
+use Rattle.edits.specs.Parts.{putMapping, clearInside}
 use Rattle.edits.specs.Kept.{charge-less}
 use Rattle.edits.specs.Untouched.{map-onlyOf}
 use Rattle.rules_table.specs.Untouched.{onlyOf, Untouched}
@@ -59,7 +60,7 @@ module _ (t : Table) (i : ℕ) (m : Mapping) (h : i < ListN.length (t .mappings)
 
   pub map-sound : Sound t → (info : ℕ → Backing) → used m ≡ true → UsedOk (t .objects) m → any (touches (m .space) (extent m)) (t .mappings) ≡ false
       → Agree info (set (t .mappings) i m) → charge (set (t .mappings) i m) ≤ t .limit → Sound (putMapping t i m)
-  unfolding putMapping
+  unfolding applied
   map-sound g info u ok clear agree less = record {
     objects = g .objects;
     records = Each-set (λ n. recordOk (t .objects) n ≡ true) (t .mappings) i m (used-record (t .objects) m u ok) (g .records);
@@ -73,7 +74,7 @@ module _ (t : Table) (i : ℕ) (m : Mapping) (h : i < ListN.length (t .mappings)
   }
 
   pub map-untouched : (s : ℕ) → (m .space ≡ s → ⊥) → Untouched s t (putMapping t i m)
-  unfolding putMapping onlyOf ofSpace
+  unfolding applied onlyOf ofSpace
   map-untouched s ne = record {
     mappings = map-set-same (onlyOf s) (t .mappings) i m zeroMapping (rw (free, ne-eqb (m .space) s ne) (by-test (eqb 0 s) (λ z. rw z) (λ z. rw z)));
     itself = refl;
@@ -83,7 +84,7 @@ module _ (t : Table) (i : ℕ) (m : Mapping) (h : i < ListN.length (t .mappings)
 -- ---- mappings are released
 
 pub clear-sound : (t : Table) (s : ℕ) (r : Range) → Sound t → Sound (clearInside t s r)
-unfolding clearInside
+unfolding applied
 clear-sound t s r g = record {
   objects = g .objects;
   records = release-records (within s r) (t .objects) (t .mappings) (g .records);
@@ -101,5 +102,5 @@ unfolding within ofSpace
 within-space s r m e = eqb-true (m .space) s (and-left (eqb (m .space) s) (inside (extent m) r) e)
 
 pub clear-untouched : (s : ℕ) (t : Table) (k : ℕ) (r : Range) → (k ≡ s → ⊥) → Untouched s t (clearInside t k r)
-unfolding clearInside
+unfolding applied
 clear-untouched s t k r ne = record { mappings = map-onlyOf s k (within k r) (t .mappings) (λ q. ne (sym q)) (within-space k r); itself = refl; devices = refl }

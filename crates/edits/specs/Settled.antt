@@ -10,7 +10,7 @@ use Rattle.lists.specs.Checks.{Check, when, first, first-append, first-fires, f
 use Rattle.rules_table.specs.declared.Object.{Object}
 use Rattle.rules_table.specs.Records.{isSpace, objectAt}
 use Rattle.rules_calls.specs.declared.Edit.{Edit}
-use Rattle.rules_calls.specs.Edits.{refuse, settle, noRecord, placed}
+use Rattle.rules_calls.specs.Edits.{refuse, settle, noRecord, added}
 
 -- a check by itself, and the checks after it, are one list of checks. b is what the code found of it
 pub checked : (b c : Bool) (n r rest ok : ℕ) (cs : List (Check ℕ)) → r ≡ first (when b n ∷ []) rest → b ≡ c → rest ≡ first cs ok → r ≡ first (when c n ∷ cs) ok
@@ -30,7 +30,7 @@ pub settle-taken : (n m : ℕ) (r e : Edit) → n ≡ m → n ≡ 0 → r ≡ e 
 settle-taken n zero r e s h k = k
 settle-taken n (suc m) r e s h k = absurd (omega arith)
 
--- ---- "no record: 12" at the end of a list: what `placed` refuses by itself
+-- ---- "no record: 12" at the end of a list: what `added` refuses by itself
 
 full : (cs : List (Check ℕ)) → settle (first cs 12) (refuse 12) ≡ settle (first cs 0) (refuse 12)
 unfolding first
@@ -40,10 +40,10 @@ full (c ∷ cs) =
     (λ e. ap (λ (x : ℕ). settle x (refuse 12)) (first-fires c cs 12 e ∙ sym (first-fires c cs 0 e)))
     (λ e. ap (λ (x : ℕ). settle x (refuse 12)) (first-passes c cs 12 e) ∙ full cs ∙ sym (ap (λ (x : ℕ). settle x (refuse 12)) (first-passes c cs 0 e)))
 
-pub settle-record : (cs : List (Check ℕ)) (f : Option ℕ) (n : Object) → settle (first cs 0) (placed f n) ≡ settle (first (cs ++ noRecord f ∷ []) 0) (placed f n)
+pub settle-record : (cs : List (Check ℕ)) (f : Option ℕ) (n : Object) → settle (first cs 0) (added f n) ≡ settle (first (cs ++ noRecord f ∷ []) 0) (added f n)
 unfolding first
 settle-record cs none n = sym (ap (λ (x : ℕ). settle x (refuse 12)) (first-append cs (noRecord none ∷ []) 0) ∙ full cs)
-settle-record cs (some i) n = sym (ap (λ (x : ℕ). settle x (placed (some i) n)) (first-append cs (noRecord (some i) ∷ []) 0))
+settle-record cs (some i) n = sym (ap (λ (x : ℕ). settle x (added (some i) n)) (first-append cs (noRecord (some i) ∷ []) 0))
 
 -- a space has an id from 1 on
 pub space-id : (os : List Object) (id : ℕ) → isSpace (objectAt os id .kind) ≡ true → 1 ≤ id

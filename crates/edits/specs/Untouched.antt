@@ -19,8 +19,9 @@ use Rattle.table.specs.Cleared.{release-true, release-false}
 use Rattle.table.specs.Sound.{Sound}
 use Rattle.table.specs.Replaced.{objectAt-set-other}
 use Rattle.rules_calls.specs.declared.Edit.{Edit}
-use Rattle.rules_calls.specs.Edits.{settle, placed, putObject, dropSpace, applied}
-use Rattle.edits.specs.Kept.{free-place}
+use Rattle.rules_calls.specs.Edits.{settle, added, applied}
+use Rattle.edits.specs.Parts.{putObject, dropSpace}
+use Rattle.edits.specs.Kept.{free-slot}
 use Rattle.rules_table.specs.Untouched.{onlyOf, onlyAt, Untouched}
 
 pub untouched-same : (s : ℕ) (t : Table) → Untouched s t t
@@ -33,7 +34,7 @@ settle-untouched s t (suc n) e h = untouched-same s t
 
 -- an object is replaced that is neither the space nor attached to it, before and after
 pub put-untouched : (s : ℕ) (t : Table) (i : ℕ) (n : Object) → (s ≡ suc i → ⊥) → attachedTo s (getD (t .objects) i freeObject .kind) ≡ false → attachedTo s (n .kind) ≡ false → Untouched s t (putObject t i n)
-unfolding putObject onlyAt
+unfolding applied onlyAt
 put-untouched s t i n ne old new = record {
   mappings = refl;
   itself = objectAt-set-other (t .objects) i n s ne;
@@ -57,23 +58,20 @@ unfolding ofSpace
 of-space k m e = eqb-true (m .space) k e
 
 pub drop-untouched : (s : ℕ) (t : Table) (i : ℕ) → (s ≡ suc i → ⊥) → attachedTo s (getD (t .objects) i freeObject .kind) ≡ false → Untouched s t (dropSpace t i)
-unfolding dropSpace onlyAt
-drop-untouched s t i ne old =
-    by-test (leb 32 i)
-    (λ e. rw e (untouched-same s t))
-    (λ e. rw e (record {
-      mappings = map-onlyOf s (i + 1) (ofSpace (i + 1)) (t .mappings) (λ q. ne (q ∙ add-one i)) (of-space (i + 1));
-      itself = objectAt-set-other (t .objects) i freeObject s ne;
-      devices = map-set-same (onlyAt s) (t .objects) i freeObject freeObject (rw old);
-    }))
+unfolding applied onlyAt
+drop-untouched s t i ne old = record {
+  mappings = by-test (leb 32 i) (λ e. rw e) (λ e. rw e (map-onlyOf s (i + 1) (ofSpace (i + 1)) (t .mappings) (λ q. ne (q ∙ add-one i)) (of-space (i + 1))));
+  itself = objectAt-set-other (t .objects) i freeObject s ne;
+  devices = map-set-same (onlyAt s) (t .objects) i freeObject freeObject (rw old);
+}
 
 -- a new object takes a free record
-pub placed-untouched : (s : ℕ) (t : Table) (n : Object) → Sound t → spaceAt (t .objects) s ≡ true → attachedTo s (n .kind) ≡ false → Untouched s t (applied t (placed (freeRecord (t .objects)) n))
+pub added-untouched : (s : ℕ) (t : Table) (n : Object) → Sound t → spaceAt (t .objects) s ≡ true → attachedTo s (n .kind) ≡ false → Untouched s t (applied t (added (freeRecord (t .objects)) n))
 unfolding applied
-placed-untouched s t n g space new = go (freeRecord (t .objects)) refl
+added-untouched s t n g space new = go (freeRecord (t .objects)) refl
   where
-    go : (o : Option ℕ) → freeRecord (t .objects) ≡ o → Untouched s t (applied t (placed o n))
+    go : (o : Option ℕ) → freeRecord (t .objects) ≡ o → Untouched s t (applied t (added o n))
     go none e = untouched-same s t
     go (some i) e =
-        let p = free-place (t .objects) i e in
+        let p = free-slot (t .objects) i e in
         put-untouched s t i n (λ q. contrary (spaceAt (t .objects) (suc i)) (rw (← q) space) (p .1)) (p .2 s) new

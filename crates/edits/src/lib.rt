@@ -5,8 +5,9 @@ ghost use mathlib.Core.List.{map, List};
 ghost use mathlib.Core.Path.{_≡_};
 ghost use Prim.Native.Nat.{_<_, _-_};
 ghost use Rattle.rules_table.specs.Records.{freeObject, newSpace, zeroMapping, within, release};
-ghost use Rattle.rules_calls.specs.Edits.{refuse, accept, putObject, dropSpace, putMapping, clearInside, applied, placed};
-ghost use Rattle.rules_calls.specs.Answers.{refusedBy, outcome, outcomeId, freshAnswer};
+ghost use Rattle.rules_calls.specs.Edits.{refuse, accept, tells, applied, added};
+ghost use Rattle.rules_calls.specs.Answers.{outcome, outcomeId, freshAnswer};
+ghost use Rattle.edits.specs.Parts.{putObject, dropSpace, putMapping, clearInside};
 ghost use lib.ListN.{length};
 ghost use Rattle.rangelists.specs.Listed.{found};
 ghost use Rattle.rules_table.specs.Charge.{freeRecord};
@@ -86,6 +87,14 @@ pub fn acceptance(value: u64, change: Change, object: Object) -> Edit
         change,
         object,
     }
+}
+
+// An answer that changes nothing.
+pub fn tell(value: u64) -> Edit
+    ensures { λ e. ⌜ e ≡ tells value ⌝ }
+{
+    let object = free_object();
+    acceptance(value, Change::Nothing, object)
 }
 
 pub fn put_object(t: Table, i: usize, object: Object) -> Table
@@ -189,16 +198,6 @@ pub fn apply(t: Table, e: Edit) -> Table
     }
 }
 
-// A refusal: the table as it was.
-pub fn refused(t: Table, errno: u8) -> Answer
-    ensures { λ a. ⌜ a ≡ refusedBy t errno ⌝ }
-{
-    Answer {
-        result: opening::signed_result(errno),
-        table: t,
-    }
-}
-
 // The result of an edit, 0 or the negative errno, and the table after it.
 pub fn settled(t: Table, e: Edit) -> Answer
     ensures { λ a. ⌜ a ≡ outcome t e ⌝ }
@@ -253,14 +252,14 @@ pub fn fresh(limit: u64) -> Answer
         mappings,
     };
     if 0x10_0000_0000 < limit {
-        return refused(table, 22);
+        return Answer { result: -22, table };
     }
     Answer { result: 0, table }
 }
 
 // A new object in the lowest free record.
-pub fn place_new(free: Found, object: Object) -> Edit
-    ensures { λ e. ⌜ ((os : List Object) → length os ≡ 32 → free ≡ found (freeRecord os) → e ≡ placed (freeRecord os) object) ⌝ }
+pub fn add_new(free: Found, object: Object) -> Edit
+    ensures { λ e. ⌜ ((os : List Object) → length os ≡ 32 → free ≡ found (freeRecord os) → e ≡ added (freeRecord os) object) ⌝ }
 {
     let Found::At(i) = free else {
         return refusal(12);

@@ -1,7 +1,7 @@
 -- What each return of the code gives, in the words of the definitions.
 use Prim.Native.Nat.{ℕ, zero, suc, _<_}
-use mathlib.Core.Path.{_≡_, refl, sym, _∙_}
-use mathlib.Core.Bool.{Bool, true, false}
+use mathlib.Core.Path.{_≡_, sym, _∙_}
+use mathlib.Core.Bool.{true, false}
 use native.Mathlib.Omega.{arith}
 use lib.IntN.{ℤ}
 use lib.ListN.{length}
@@ -15,18 +15,15 @@ use Rattle.rules_table.specs.Good.{backingsAgree, good}
 use Rattle.table.specs.Checked.{objectsOk, recordsOk, good-grouped}
 use Rattle.records.specs.Charging.{chargedOf}
 use Rattle.rules_calls.specs.declared.Edit.{Edit}
-use Rattle.rules_calls.specs.Edits.{refuse, settle, placed}
-use Rattle.edits.specs.Kept.{placed-value}
-use Rattle.rules_calls.specs.declared.Reach.{Reach}
-use Rattle.rules_table.specs.Fits.{bindChecks}
+use Rattle.rules_calls.specs.Edits.{refuse, settle, added}
+use Rattle.edits.specs.Kept.{added-value}
 use Rattle.rules_calls.specs.Bind.{newDevice, bindEdit, bindRule}
-use Rattle.rules_calls.specs.Reach.{reachSettle, reachOf, reachedBy, reachCall}
 use Rattle.rules_calls.specs.declared.Act.{Act}
 use Rattle.rules_calls.specs.declared.Order.{Order}
 use Rattle.rules_calls.specs.declared.Reached.{Reached}
 use Rattle.rules_calls.specs.Gate.{tableErrno}
 use Rattle.host_calls.specs.Orders.{sumIn}
-use Rattle.rules_calls.specs.Orders.{bindOrder, reachOrder, reachTold, actEdit, hostEdit}
+use Rattle.rules_calls.specs.Orders.{bindOrder, reachedBy, actEdit, hostEdit}
 
 module _ (t : Table) (o : Order) (e : Edit) where
   pub host-bad : good t ≡ false → e ≡ refuse 117 → e ≡ hostEdit t o
@@ -49,16 +46,11 @@ pub bind-value : (t : Table) (bitmap : ℕ) (l : Reserved) (e : Edit) → length
 unfolding hostEdit bindEdit
 bind-value t bitmap l e n h = rw h (guarded (tableErrno t) (first (bindRule (t .objects) bitmap l) 0))
   where
-    guarded : (m k : ℕ) → settle m (settle k (placed (freeRecord (t .objects)) (newDevice bitmap l))) .value < 256
-    guarded zero zero = placed-value (t .objects) (newDevice bitmap l) n
+    guarded : (m k : ℕ) → settle m (settle k (added (freeRecord (t .objects)) (newDevice bitmap l))) .value < 256
+    guarded zero zero = added-value (t .objects) (newDevice bitmap l) n
     guarded zero (suc k) = omega arith
     guarded (suc m) k = omega arith
 
 -- reach tells its errno and its address
-pub reach-is : (t : Table) (d a n : ℕ) (write : Bool) (e : Edit) (z : ℤ) → e ≡ hostEdit t (reachOrder d a n write) → z ≡ result (e .errno) → _≡_ {A = Reached} record { result = z; address = e .value } (reachCall t d a n write)
-unfolding hostEdit reachCall
-reach-is t d a n write e z h k = rw (k, h) (go (tableErrno t) (reachOf (t .objects) (t .mappings) d a n write))
-  where
-    go : (m : ℕ) (r : Reach) → _≡_ {A = Reached} record { result = result (settle m (reachTold r) .errno); address = settle m (reachTold r) .value } (reachedBy (reachSettle m r))
-    go zero r = refl
-    go (suc m) r = refl
+pub reach-is : (t : Table) (o : Order) (e : Edit) (z : ℤ) → e ≡ hostEdit t o → z ≡ result (e .errno) → _≡_ {A = Reached} record { result = z; address = e .value } (reachedBy (hostEdit t o))
+reach-is t o e z h k = rw (k, h)

@@ -6,17 +6,14 @@ ghost use lib.ListN.{length};
 ghost use Rattle.rules_table.specs.declared.Object.{Object};
 ghost use Rattle.digests.specs.Digest.{DigestOf, Digested};
 ghost use Rattle.rules_calls.specs.Gate.{tableWith};
-ghost use Rattle.rules_calls.specs.Reach.{reachCall};
-ghost use Rattle.rules_calls.specs.Attach.{attachCall, detachCall};
-ghost use Rattle.rules_calls.specs.Bind.{bindCall};
+ghost use Rattle.rules_calls.specs.Answers.{outcome, outcomeId};
 ghost use Rattle.host_calls.specs.Orders.{sumIn};
-ghost use Rattle.rules_calls.specs.Orders.{orderFor, bindOrder, attachOrder, detachOrder, reachOrder, chargeOrder, told, hostEdit};
+ghost use Rattle.rules_calls.specs.Orders.{orderFor, bindOrder, attachOrder, detachOrder, reachOrder, chargeOrder, reachedBy, hostEdit};
 use digests::Digest;
 use rangelists::Reserved;
 use records::Charged;
 use rules_calls::Act;
 use rules_calls::Answer;
-use rules_calls::Change;
 use rules_calls::Edit;
 use rules_calls::Order;
 use rules_calls::Reached;
@@ -97,19 +94,6 @@ pub fn charge_order() -> Order
 
 // ---- deciding
 
-// An answer that changes nothing.
-fn tell(errno: u8, value: u64) -> Edit
-    ensures { λ e. ⌜ e ≡ told errno value ⌝ }
-{
-    let object = edits::free_object();
-    Edit {
-        errno,
-        value,
-        change: Change::Nothing,
-        object,
-    }
-}
-
 // The charge of records that keep their rules.
 fn charge_in(c: Charged) -> u64
     ensures { λ n. ⌜ n ≡ sumIn c ⌝ }
@@ -141,11 +125,8 @@ pub fn decide(limit: u64, d: Digest, ms: [Mapping; 128], o: Order) -> Edit
             host_device::decide_attach(device, first, d.alignment, ms, o.second, o.first)
         }
         Act::Detach => host_device::decide_detach(first, o.first),
-        Act::Reach(write) => {
-            let r = host_device::reach_of(first, ms, o.address, o.length, write);
-            tell(r.errno, r.address)
-        }
-        Act::Charge => tell(0, charge_in(records::charged_of(ms))),
+        Act::Reach(write) => { host_device::reach_of(first, ms, o.address, o.length, write) }
+        Act::Charge => edits::tell(charge_in(records::charged_of(ms))),
     }
 }
 
@@ -162,21 +143,21 @@ fn decided(t: Table, o: Order) -> Edit
 
 // A new device, loose, with its page sizes and reserved ranges. The result is its id.
 pub fn bind(t: Table, bitmap: u64, reserved: Reserved) -> Answer
-    ensures { λ a. ⌜ a ≡ bindCall t bitmap reserved ⌝ }
+    ensures { λ a. ⌜ a ≡ outcomeId t (hostEdit t (bindOrder bitmap reserved)) ⌝ }
 {
     let e = decided(t, bind_order(bitmap, reserved));
     edits::settled_id(t, e)
 }
 
 pub fn attach(t: Table, device: u32, space: u32) -> Answer
-    ensures { λ a. ⌜ a ≡ attachCall t device space ⌝ }
+    ensures { λ a. ⌜ a ≡ outcome t (hostEdit t (attachOrder device space)) ⌝ }
 {
     let e = decided(t, attach_order(device, space));
     edits::settled(t, e)
 }
 
 pub fn detach(t: Table, device: u32) -> Answer
-    ensures { λ a. ⌜ a ≡ detachCall t device ⌝ }
+    ensures { λ a. ⌜ a ≡ outcome t (hostEdit t (detachOrder device)) ⌝ }
 {
     let e = decided(t, detach_order(device));
     edits::settled(t, e)
@@ -184,7 +165,7 @@ pub fn detach(t: Table, device: u32) -> Answer
 
 // The memory that a device gets to at an address, for reading or writing.
 pub fn reach(t: Table, device: u32, address: u64, length: u64, write: bool) -> Reached
-    ensures { λ r. ⌜ r ≡ reachCall t device address length write ⌝ }
+    ensures { λ r. ⌜ r ≡ reachedBy (hostEdit t (reachOrder device address length write)) ⌝ }
 {
     let e = decided(t, reach_order(device, address, length, write));
     Reached {

@@ -20,8 +20,9 @@ use Rattle.table.specs.Checked.{recordOk}
 use Rattle.table.specs.Facts.{record-used, record-free}
 use Rattle.host_device.specs.declared.Around.{Around}
 use Rattle.host_device.specs.declared.Around.the-variants.{Nothing, In}
-use Rattle.rules_calls.specs.declared.Reach.{Reach}
-use Rattle.rules_calls.specs.Reach.{reachRefused, reachAt, around, mayDo, reachChecks, reachSettle, reachOf}
+use Rattle.rules_calls.specs.declared.Edit.{Edit}
+use Rattle.rules_calls.specs.Edits.{refuse, tells, settle}
+use Rattle.rules_calls.specs.Reach.{around, mayDo, reachChecks, reachOf}
 use Rattle.host_device.specs.Held.{holdsAll, reachIn, reach-split, held}
 
 -- ---- one record
@@ -97,26 +98,26 @@ may-write m w b e f = rw e f
 pub may-read : (m : Mapping) (w b : Bool) → w ≡ false → b ≡ canRead m → b ≡ mayDo w m
 may-read m w b e f = rw e f
 
-pub in-refused : (a : ℕ) (write : Bool) (m : Mapping) (b : Bool) → b ≡ mayDo write m → b ≡ false → reachRefused 1 ≡ reachIn a write (some m)
+pub in-refused : (a : ℕ) (write : Bool) (m : Mapping) (b : Bool) → b ≡ mayDo write m → b ≡ false → refuse 1 ≡ reachIn a write (some m)
 in-refused a write m b e f = rw (sym e ∙ f)
 
-pub in-taken : (a : ℕ) (write : Bool) (m : Mapping) (b : Bool) → b ≡ mayDo write m → b ≡ true → reachAt (m .memory + (a - m .address)) ≡ reachIn a write (some m)
+pub in-taken : (a : ℕ) (write : Bool) (m : Mapping) (b : Bool) → b ≡ mayDo write m → b ≡ true → tells (m .memory + (a - m .address)) ≡ reachIn a write (some m)
 in-taken a write m b e f = rw (sym e ∙ f)
 
 module _ (os : List Object) (ms : List Mapping) (d a n : ℕ) (write : Bool) (o : Object) (p : o ≡ objectAt os d) (x : ℕ) (q : x ≡ first (reachChecks (o .kind) a n) 0) where
   -- by the errno
-  settled : (y z : ℕ) (r : Reach) → y ≡ z → (y ≡ 0 → ⊥) → reachRefused y ≡ reachSettle z r
+  settled : (y z : ℕ) (r : Edit) → y ≡ z → (y ≡ 0 → ⊥) → refuse y ≡ settle z r
   settled y zero r e h = absurd (h e)
-  settled y (suc z) r e h = ap reachRefused e
+  settled y (suc z) r e h = ap refuse e
 
-  taken : (y z : ℕ) (r : Reach) → y ≡ z → y ≡ 0 → r ≡ reachSettle z r
+  taken : (y z : ℕ) (r : Edit) → y ≡ z → y ≡ 0 → r ≡ settle z r
   taken y zero r e h = refl
   taken y (suc z) r e h = absurd (omega arith)
 
   errno : x ≡ first (reachChecks (objectAt os d .kind) a n) 0
   errno = q ∙ ap (λ (o : Object). first (reachChecks (o .kind) a n) 0) p
 
-  pub reach-refused : (x ≡ 0 → ⊥) → reachRefused x ≡ reachOf os ms d a n write
+  pub reach-refused : (x ≡ 0 → ⊥) → refuse x ≡ reachOf os ms d a n write
   reach-refused h = settled x (first (reachChecks (objectAt os d .kind) a n) 0) (reachIn a write (around ms (homeOf (objectAt os d .kind)) (span a n))) errno h ∙ sym (reach-split os ms d a n write)
 
   module _ (s : ℕ) (i : Range) (f : Around) (z : x ≡ 0) (hs : s ≡ homeOf (o .kind)) (hi : i ≡ span a n) (hf : f ≡ held (around ms s i)) where
@@ -126,8 +127,8 @@ module _ (os : List Object) (ms : List Mapping) (d a n : ℕ) (write : Bool) (o 
         ∙ taken x (first (reachChecks (objectAt os d .kind) a n) 0) (reachIn a write (around ms (homeOf (objectAt os d .kind)) (span a n))) errno z
         ∙ sym (reach-split os ms d a n write)
 
-    pub reach-nowhere : f ≡ Nothing → reachRefused 14 ≡ reachOf os ms d a n write
+    pub reach-nowhere : f ≡ Nothing → refuse 14 ≡ reachOf os ms d a n write
     reach-nowhere g = same none (from-nothing (around ms s i) (sym hf ∙ g))
 
-    pub reach-found : (m : Mapping) (r : Reach) → f ≡ In m → r ≡ reachIn a write (some m) → r ≡ reachOf os ms d a n write
+    pub reach-found : (m : Mapping) (r : Edit) → f ≡ In m → r ≡ reachIn a write (some m) → r ≡ reachOf os ms d a n write
     reach-found m r g k = k ∙ same (some m) (from-in (around ms s i) m (sym hf ∙ g))

@@ -13,8 +13,9 @@ use Rattle.ranges.specs.Ranges.{inside, span}
 use Rattle.rules_table.specs.declared.Mapping.{Mapping}
 use Rattle.rules_table.specs.declared.Object.{Object}
 use Rattle.rules_table.specs.Records.{objectAt, homeOf, ofSpace, extent}
-use Rattle.rules_calls.specs.declared.Reach.{Reach}
-use Rattle.rules_calls.specs.Reach.{reachRefused, reachAt, around, mayDo, reachChecks, heldChecks, memoryAt, reachSettle, reachBy, reachOf}
+use Rattle.rules_calls.specs.declared.Edit.{Edit}
+use Rattle.rules_calls.specs.Edits.{refuse, tells, settle}
+use Rattle.rules_calls.specs.Reach.{around, mayDo, reachChecks, heldChecks, memoryAt, reachBy, reachOf}
 use Rattle.host_device.specs.declared.Around.{Around}
 use Rattle.host_device.specs.declared.Around.the-variants.{Nothing, In}
 
@@ -23,38 +24,38 @@ unfoldable pub holdsAll : ℕ → Range → Mapping → Bool
 holdsAll s r m = ofSpace s m && inside r (extent m)
 
 -- what reach answers of the mapping that it found, once what is asked is in order
-abbrev pub reachIn : ℕ → Bool → Option Mapping → Reach
-reachIn a write none = reachRefused 14
-reachIn a write (some m) = cond (mayDo write m) (reachAt (m .memory + (a - m .address))) (reachRefused 1)
+abbrev pub reachIn : ℕ → Bool → Option Mapping → Edit
+reachIn a write none = refuse 14
+reachIn a write (some m) = cond (mayDo write m) (tells (m .memory + (a - m .address))) (refuse 1)
 
-nonzero : (n : ℕ) (x y : Reach) → (n ≡ 0 → ⊥) → reachSettle n x ≡ reachSettle n y
+nonzero : (n : ℕ) (x y : Edit) → (n ≡ 0 → ⊥) → settle n x ≡ settle n y
 nonzero zero x y h = absurd (h refl)
 nonzero (suc n) x y h = refl
 
 module _ (a : ℕ) (write : Bool) (o : Option Mapping) where
-  last-two : (k : Option Mapping) → reachSettle (first (heldChecks write k) 0) (reachAt (memoryAt a k)) ≡ reachIn a write k
+  last-two : (k : Option Mapping) → settle (first (heldChecks write k) 0) (tells (memoryAt a k)) ≡ reachIn a write k
   unfolding heldChecks first
   last-two none = refl
   last-two (some m) = by-test (mayDo write m) (λ e. rw e) (λ e. rw e)
 
-  split : (cs : List (Check ℕ)) → Each (λ c. c .answer ≡ 0 → ⊥) cs → reachSettle (first cs (first (heldChecks write o) 0)) (reachAt (memoryAt a o)) ≡ reachSettle (first cs 0) (reachIn a write o)
+  split : (cs : List (Check ℕ)) → Each (λ c. c .answer ≡ 0 → ⊥) cs → settle (first cs (first (heldChecks write o) 0)) (tells (memoryAt a o)) ≡ settle (first cs 0) (reachIn a write o)
   unfolding first
   split [] h = last-two o
   split (c ∷ cs) h =
       by-test (c .fires)
-      (λ e. ap (λ (x : ℕ). reachSettle x (reachAt (memoryAt a o))) (first-fires c cs (first (heldChecks write o) 0) e) ∙ nonzero (c .answer) (reachAt (memoryAt a o)) (reachIn a write o) (h .0)
-      ∙ sym (ap (λ (x : ℕ). reachSettle x (reachIn a write o)) (first-fires c cs 0 e)))
-      (λ e. ap (λ (x : ℕ). reachSettle x (reachAt (memoryAt a o))) (first-passes c cs (first (heldChecks write o) 0) e) ∙ split cs (h .1)
-      ∙ sym (ap (λ (x : ℕ). reachSettle x (reachIn a write o)) (first-passes c cs 0 e)))
+      (λ e. ap (λ (x : ℕ). settle x (tells (memoryAt a o))) (first-fires c cs (first (heldChecks write o) 0) e) ∙ nonzero (c .answer) (tells (memoryAt a o)) (reachIn a write o) (h .0)
+      ∙ sym (ap (λ (x : ℕ). settle x (reachIn a write o)) (first-fires c cs 0 e)))
+      (λ e. ap (λ (x : ℕ). settle x (tells (memoryAt a o))) (first-passes c cs (first (heldChecks write o) 0) e) ∙ split cs (h .1)
+      ∙ sym (ap (λ (x : ℕ). settle x (reachIn a write o)) (first-passes c cs 0 e)))
 
 -- THE LAW: the checks on what is asked, then what the search found
 pub reach-split : (os : List Object) (ms : List Mapping) (d a n : ℕ) (write : Bool)
-    → reachOf os ms d a n write ≡ reachSettle (first (reachChecks (objectAt os d .kind) a n) 0) (reachIn a write (around ms (homeOf (objectAt os d .kind)) (span a n)))
+    → reachOf os ms d a n write ≡ settle (first (reachChecks (objectAt os d .kind) a n) 0) (reachIn a write (around ms (homeOf (objectAt os d .kind)) (span a n)))
 unfolding reachOf reachBy reachChecks
 reach-split os ms d a n write =
     let k = objectAt os d .kind in
     let o = around ms (homeOf k) (span a n) in
-    ap (λ (x : ℕ). reachSettle x (reachAt (memoryAt a o))) (first-append (reachChecks k a n) (heldChecks write o) 0)
+    ap (λ (x : ℕ). settle x (tells (memoryAt a o))) (first-append (reachChecks k a n) (heldChecks write o) 0)
     ∙ split a write o (reachChecks k a n) (λ z. omega (arith, z), (λ z. omega (arith, z), (λ z. omega (arith, z), (λ z. omega (arith, z), tt))))
 
 abbrev pub held : Option Mapping → Around

@@ -27,7 +27,6 @@ use rangelists::Reserved;
 use ranges::Range;
 use rules_calls::Change;
 use rules_calls::Edit;
-use rules_calls::Reach;
 use rules_table::Attachment;
 use rules_table::Kind;
 use rules_table::Mapping;
@@ -116,7 +115,7 @@ pub fn decide_bind(free: Found, bitmap: u64, l: Reserved) -> Edit
         return edits::refusal(errno);
     }
     let n = new_device(bitmap, l);
-    edits::place_new(free, n)
+    edits::add_new(free, n)
 }
 
 // ---- attach and detach
@@ -299,20 +298,14 @@ fn may_do(write: bool, m: Mapping) -> bool
 }
 
 // The memory behind address a of a mapping that holds it.
-fn reach_in(m: Mapping, a: u64, write: bool) -> Reach
+fn reach_in(m: Mapping, a: u64, write: bool) -> Edit
     requires { ⌜ (m .address ≤ a) × (m .memory + (a - m .address) ≤ U64MAX) ⌝ }
     ensures { λ r. ⌜ r ≡ reachIn a write (some m) ⌝ }
 {
     if !may_do(write, m) {
-        return Reach {
-            errno: 1,
-            address: 0,
-        };
+        return edits::refusal(1);
     }
-    Reach {
-        errno: 0,
-        address: m.memory + (a - m.address),
-    }
+    edits::tell(m.memory + (a - m.address))
 }
 
 fn reach_errno(k: Kind, a: u64, n: u64) -> u8
@@ -333,23 +326,20 @@ fn reach_errno(k: Kind, a: u64, n: u64) -> u8
 }
 
 // The records are those of a good table: so the address in memory is below 2^64.
-pub fn reach_of(o: Object, ms: [Mapping; 128], a: u64, n: u64, write: bool) -> Reach
+pub fn reach_of(o: Object, ms: [Mapping; 128], a: u64, n: u64, write: bool) -> Edit
     requires { ⌜ ((os : List Object) × Each (λ m. recordOk os m ≡ true) ms) ⌝ }
     ensures { λ r. ⌜ ((os : List Object) (d : ℕ) → o ≡ objectAt os d → r ≡ reachOf os ms d a n write) ⌝ }
 {
     let k = o.kind;
     let errno = reach_errno(k, a, n);
     if errno != 0 {
-        return Reach { errno, address: 0 };
+        return edits::refusal(errno);
     }
     let s = table::home_of(k);
     let r = ranges::span_of(a, n);
     let f = find_around(ms, s, r);
     let Around::In(m) = f else {
-        return Reach {
-            errno: 14,
-            address: 0,
-        };
+        return edits::refusal(14);
     };
     reach_in(m, a, write)
 }

@@ -12,13 +12,12 @@ use Rattle.rangelists.specs.Listed.{found}
 use Rattle.wire.specs.Fields.{field}
 use Rattle.rules_calls.specs.declared.Command.{Command}
 use Rattle.rules_calls.specs.declared.Command.the-variants.{Destroy, IoasAlloc, AllowIovas, Copy, IovaRanges, Map, Unmap}
-use Rattle.rules_calls.specs.declared.Row.{Row}
-use Rattle.rules_calls.specs.declared.Row.the-variants.{Unlisted, Listed}
+use Rattle.rules_calls.specs.declared.Row.the-variants.{Listed}
 use Rattle.rules_calls.specs.declared.Opening.{Opening}
 use Rattle.rules_calls.specs.declared.Opening.the-variants.{UnknownRequest, NoSizeField, SizeTooSmall, SizePastBytes, TailNotZero, Open}
 use Rattle.rules_calls.specs.Requests.{requestOf, lookup}
 use Rattle.rules_calls.specs.Opening.{opened, openingErrno}
-use Rattle.opening.specs.Opened.{row-number, opened-open}
+use Rattle.opening.specs.Opened.{opened-open}
 use Rattle.opening.proofs.Lookups.{listed}
 use Rattle.rules_table.specs.declared.Object.{Object}
 use Rattle.rules_table.specs.declared.Mapping.{Mapping}
@@ -31,101 +30,63 @@ use Rattle.rules_calls.specs.declared.Edit.{Edit}
 use Rattle.rules_calls.specs.Edits.{refuse}
 use Rattle.rules_calls.specs.declared.Answer.{Answer}
 use Rattle.rules_calls.specs.Answers.{outcome, replied}
+use Rattle.rules_calls.specs.Ranges.{rangesReplied, rangesFilled}
+use Rattle.edits.specs.Replies.{row-kept, gate-90, call-edit}
 use Rattle.digests.specs.declared.Digest.{Digest}
 use Rattle.digests.specs.Digest.{Seen, DigestOf}
 use Rattle.rules_calls.specs.Gate.{tableWith, gateErrno}
-use Rattle.rules_calls.specs.Objects.{allocEdit, destroyEdit, allocCall, allocBytes}
+use Rattle.rules_calls.specs.Objects.{allocEdit, destroyEdit}
 use Rattle.cmd_space_bytes.specs.Replied.{RangesDone}
-use Rattle.cmd_space_bytes.proofs.Replying.{ranges-gated, ranges-answered}
-use Rattle.rules_calls.specs.Unmap.{unmapDecided, unmapCall, unmapBytes}
-use Rattle.rules_calls.specs.Copy.{copyDecided, copyCall, copyBytes}
-use Rattle.rules_calls.specs.Map.{mapDecided, mapCall, mapBytes}
-use Rattle.rules_calls.specs.Call.{rowDone, commandDone, callDone, commandEdit, rowEdit, callEdit}
-use Rattle.iommufd.specs.Deciding.{firstId, secondId, commandIn, Decided, call-edit}
+use Rattle.rules_calls.specs.Map.{mapFields, mapEdit}
+use Rattle.rules_calls.specs.Copy.{copyFields, copyEdit}
+use Rattle.rules_calls.specs.Unmap.{unmapFields, unmapEdit}
+use Rattle.rules_calls.specs.Call.{rowDone, commandDone, callDone, commandEdit, callEdit}
+use Rattle.iommufd.specs.Deciding.{firstId, secondId, commandIn, Decided}
 use Rattle.edits.specs.Numbers.{allowEditAt}
 
 -- what is left by a command itself
 abbrev Left : Command → Table → List ℕ → List ℕ → Edit → List ℕ → List ℕ → Type 0
-Left c t cmd area e cmd′ area′ = (e ≡ commandEdit c t cmd area) × (cmd′ ≡ commandDone c t cmd area .bytes) × (area′ ≡ commandDone c t cmd area .area)
+Left c t cmd area e cmd′ area′ = (e ≡ commandEdit c t cmd area) × (cmd′ ≡ commandDone c t e cmd area .bytes) × (area′ ≡ commandDone c t e cmd area .area)
 
-module _ (t : Table) (cmd area : List ℕ) where
-  -- a reply that is refused writes nothing
-  unwritten : (size off n value : ℕ) → cmd ≡ replied size off (suc n) value cmd
-  unfolding replied
-  unwritten size off n value = rw (ne-eqb (suc n) 0 (λ z. omega (arith, z)))
+module _ (t : Table) (cmd area : List ℕ) (request : ℕ) where
+  -- what an edit leaves is what the call leaves, if it is the call's
+  from-edit : (e : Edit) (cmd′ area′ : List ℕ) → e ≡ callEdit t request cmd area → cmd′ ≡ rowDone (lookup request) t e cmd area .bytes → area′ ≡ rowDone (lookup request) t e cmd area .area → Decided t request cmd area e cmd′ area′
+  unfolding callDone
+  from-edit e cmd′ area′ p q s = record {
+    edit = p;
+    reply = q ∙ ap (λ (x : Edit). rowDone (lookup request) t x cmd area .bytes) p;
+    ranges = s ∙ ap (λ (x : Edit). rowDone (lookup request) t x cmd area .area) p;
+  }
 
-  -- refused at the gate, command by command
-  gated : (c : Command) (n : ℕ) → gateErrno t (requestOf c .number) cmd ≡ suc n → Left c t cmd area (refuse (suc n)) cmd area
-  unfolding allocCall allocBytes mapCall mapBytes copyCall copyBytes unmapCall unmapBytes
-  gated Destroy n g = (rw g, refl, refl)
-  gated IoasAlloc n g = (rw g, rw g (unwritten 4 8 n 0), refl)
-  gated AllowIovas n g = (rw g, refl, refl)
-  gated Copy n g = (rw g, rw g (unwritten 8 24 n 0), refl)
-  gated IovaRanges n g = ranges-gated t cmd area (suc n) (sym g) (λ z. omega (arith, z))
-  gated Map n g = (rw g, rw g (unwritten 8 32 n 0), refl)
-  gated Unmap n g = (rw g, rw g (unwritten 8 16 n 0), refl)
+  -- a refusal before the command's own work
+  pub refused : (n : ℕ) (e : Edit) → n ≡ gateErrno t request cmd → (n ≡ 0 → ⊥) → e ≡ refuse n → Decided t request cmd area e cmd area
+  unfolding callEdit
+  refused zero e g h k = absurd (h refl)
+  refused (suc n) e g h k =
+      let same : e .errno ≡ gateErrno t request cmd = ap (λ (x : Edit). x .errno) k ∙ g in
+      let p = row-kept t e cmd area (λ z. h (g ∙ sym same ∙ z)) (λ z. gate-90 t request cmd (sym same ∙ z)) (lookup request) in
+      from-edit e cmd area (k ∙ rw (← g)) (sym (p .0)) (sym (p .1))
 
-  module _ (request : ℕ) where
-    by-row : (r : Row) → lookup request ≡ r → (e : Edit) (cmd′ area′ : List ℕ) → e ≡ rowEdit r t request cmd area → cmd′ ≡ rowDone r t request cmd area .bytes → area′ ≡ rowDone r t request cmd area .area
-        → Decided t request cmd area e cmd′ area′
-    unfolding callEdit callDone
-    by-row r f e cmd′ area′ p q s = record { edit = p ∙ rw f; reply = q ∙ rw f; ranges = s ∙ rw f }
+  -- the arm of a command that is open
+  pub arm : (c : Command) (e : Edit) (cmd′ area′ : List ℕ) → good t ≡ true → opened request cmd ≡ Open c → Left c t cmd area e cmd′ area′ → Decided t request cmd area e cmd′ area′
+  unfolding callEdit gateErrno
+  arm c e cmd′ area′ g o l =
+      let f : lookup request ≡ Listed c (requestOf c .size) = sym (listed c request (sym (opened-open request cmd c o .number))) in
+      from-edit e cmd′ area′ (l .0 ∙ rw (g, o, f)) (l .1 ∙ rw f) (l .2 ∙ rw f)
 
-    -- a refusal before the command's own work
-    pub refused : (n : ℕ) (e : Edit) → n ≡ gateErrno t request cmd → (n ≡ 0 → ⊥) → e ≡ refuse n → Decided t request cmd area e cmd area
-    refused zero e g h k = absurd (h refl)
-    refused (suc n) e g h k = go (lookup request) refl
-      where
-        go : (r : Row) → lookup request ≡ r → Decided t request cmd area e cmd area
-        go Unlisted f = by-row Unlisted f e cmd area (k ∙ ap refuse g) refl refl
-        go (Listed c size) f =
-            let p = gated c n (ap (λ (m : ℕ). gateErrno t m cmd) (row-number request c size f .0) ∙ sym g) in
-            by-row (Listed c size) f e cmd area (k ∙ p .0) (p .1) (p .2)
+  -- 117, or the errno of the opening
+  pub gate-bad : good t ≡ false → 117 ≡ gateErrno t request cmd
+  unfolding gateErrno
+  gate-bad g = rw g
 
-    -- the arm of a command that is open
-    pub arm : (c : Command) (e : Edit) (cmd′ area′ : List ℕ) → opened request cmd ≡ Open c → Left c t cmd area e cmd′ area′ → Decided t request cmd area e cmd′ area′
-    arm c e cmd′ area′ o l = by-row (Listed c (requestOf c .size)) (sym (listed c request (sym (opened-open request cmd c o .number)))) e cmd′ area′ (l .0) (l .1) (l .2)
+  pub gate-closed : (o : Opening) (n : ℕ) → good t ≡ true → o ≡ opened request cmd → n ≡ openingErrno o → n ≡ gateErrno t request cmd
+  unfolding gateErrno
+  gate-closed o n g f k = k ∙ rw (g, f)
 
-    -- past the gate
-    pub passed : (c : Command) → good t ≡ true → opened request cmd ≡ Open c → gateErrno t (requestOf c .number) cmd ≡ 0
-    unfolding gateErrno
-    passed c g o = let same : opened (requestOf c .number) cmd ≡ Open c = ap (λ (n : ℕ). opened n cmd) (opened-open request cmd c o .number) ∙ o in rw (g, same)
-
-    -- 117, or the errno of the opening
-    pub gate-bad : good t ≡ false → 117 ≡ gateErrno t request cmd
-    unfolding gateErrno
-    gate-bad g = rw g
-
-    pub gate-closed : (o : Opening) (n : ℕ) → good t ≡ true → o ≡ opened request cmd → n ≡ openingErrno o → n ≡ gateErrno t request cmd
-    unfolding gateErrno
-    gate-closed o n g f k = k ∙ rw (g, f)
-
-  -- ---- each arm: what was decided past the gate is the command's
-
-  pub destroy-left : (e : Edit) → gateErrno t 0x3B80 cmd ≡ 0 → e ≡ destroyEdit (t .objects) (field 4 cmd 4) → Left Destroy t cmd area e cmd area
-  destroy-left e g k = (k ∙ rw g, refl, refl)
-
-  pub alloc-left : (e : Edit) (cmd′ : List ℕ) → gateErrno t 0x3B81 cmd ≡ 0 → e ≡ allocEdit (t .objects) (field 4 cmd 4) → cmd′ ≡ replied 4 8 (e .errno) (e .value) cmd → Left IoasAlloc t cmd area e cmd′ area
-  unfolding allocCall allocBytes
-  alloc-left e cmd′ g k w = (k ∙ rw g, w ∙ rw (k, g), refl)
-
-  pub allow-left : (e : Edit) → gateErrno t 0x3B82 cmd ≡ 0 → e ≡ allowEditAt (t .objects) (field 4 cmd 4) (field 4 cmd 8) (field 4 cmd 12) area → Left AllowIovas t cmd area e cmd area
-  allow-left e g k = (k ∙ rw g, refl, refl)
-
-  pub copy-left : (e : Edit) (cmd′ : List ℕ) → gateErrno t 0x3B83 cmd ≡ 0 → e ≡ copyDecided t cmd → cmd′ ≡ replied 8 24 (e .errno) (e .value) cmd → Left Copy t cmd area e cmd′ area
-  unfolding copyCall copyBytes
-  copy-left e cmd′ g k w = (k ∙ rw g, w ∙ rw (k, g), refl)
-
-  pub ranges-left : (e : Edit) (cmd′ area′ : List ℕ) → gateErrno t 0x3B84 cmd ≡ 0 → e ≡ refuse (e .errno) → RangesDone (t .objects) (e .errno) cmd cmd′ area area′ → Left IovaRanges t cmd area e cmd′ area′
-  ranges-left e cmd′ area′ g k d = let p = ranges-answered t cmd area cmd′ area′ (e .errno) g d in (k ∙ p .0, p .1, p .2)
-
-  pub map-left : (e : Edit) (cmd′ : List ℕ) → gateErrno t 0x3B85 cmd ≡ 0 → e ≡ mapDecided t cmd → cmd′ ≡ replied 8 32 (e .errno) (e .value) cmd → Left Map t cmd area e cmd′ area
-  unfolding mapCall mapBytes
-  map-left e cmd′ g k w = (k ∙ rw g, w ∙ rw (k, g), refl)
-
-  pub unmap-left : (e : Edit) (cmd′ : List ℕ) → gateErrno t 0x3B86 cmd ≡ 0 → e ≡ unmapDecided t cmd → cmd′ ≡ replied 8 16 (e .errno) (e .value) cmd → Left Unmap t cmd area e cmd′ area
-  unfolding unmapCall unmapBytes
-  unmap-left e cmd′ g k w = (k ∙ rw g, w ∙ rw (k, g), refl)
+-- the reply of IOVA_RANGES, past the gate
+ranges-left : (t : Table) (cmd area : List ℕ) (e : Edit) (cmd′ area′ : List ℕ) → e ≡ refuse (e .errno) → RangesDone (t .objects) (e .errno) cmd cmd′ area area′ → Left IovaRanges t cmd area e cmd′ area′
+unfolding rangesReplied rangesFilled
+ranges-left t cmd area e cmd′ area′ k d = (k ∙ ap refuse (d .errno), d .bytes, d .ranges)
 
 -- ---- the opening
 
@@ -183,39 +144,39 @@ module _ (limit : ℕ) (os : List Object) (ms : List Mapping) (request : ℕ) (c
   pub destroy-arm : (id : ℕ) → opened request cmd ≡ Open Destroy → id ≡ field 4 cmd 4 → (d .first ≡ objectAt os id → d .held ≡ any (λ x. attachedTo id (x .kind)) os → e ≡ destroyEdit os id) → Decided T request cmd area e cmd area
   destroy-arm id o r h =
       let w = at-4 Destroy o (λ z. omega (arith, z)) (λ z. omega (arith, z)) (omega arith) in
-      arm T cmd area request Destroy e cmd area o (destroy-left T cmd area e (passed T cmd area request Destroy g o)
-      (h (w .first ∙ ap (objectAt os) (sym r)) (w .held ∙ ap (λ (i : ℕ). any (λ x. attachedTo i (x .kind)) os) (sym r)) ∙ ap (destroyEdit os) r))
+      arm T cmd area request Destroy e cmd area g o
+      (h (w .first ∙ ap (objectAt os) (sym r)) (w .held ∙ ap (λ (i : ℕ). any (λ x. attachedTo i (x .kind)) os) (sym r)) ∙ ap (destroyEdit os) r, refl, refl)
 
   pub alloc-arm : (cmd′ : List ℕ) → opened request cmd ≡ Open IoasAlloc → (d .free ≡ found (freeRecord os) → (e ≡ allocEdit os (field 4 cmd 4)) × (cmd′ ≡ replied 4 8 (e .errno) (e .value) cmd)) → Decided T request cmd area e cmd′ area
-  alloc-arm cmd′ o h = let p = h (s .free) in arm T cmd area request IoasAlloc e cmd′ area o (alloc-left T cmd area e cmd′ (passed T cmd area request IoasAlloc g o) (p .0) (p .1))
+  alloc-arm cmd′ o h = let p = h (s .free) in arm T cmd area request IoasAlloc e cmd′ area g o (p .0, p .1, refl)
 
   pub allow-arm : opened request cmd ≡ Open AllowIovas → (d .first ≡ objectAt os (field 4 cmd 4) → Gathered os (d .blocks) → e ≡ allowEditAt os (field 4 cmd 4) (field 4 cmd 8) (field 4 cmd 12) area) → Decided T request cmd area e cmd area
   allow-arm o h =
       let w = at-4 AllowIovas o (λ z. omega (arith, z)) (λ z. omega (arith, z)) (omega arith) in
-      arm T cmd area request AllowIovas e cmd area o (allow-left T cmd area e (passed T cmd area request AllowIovas g o) (h (w .first) (w .blocks)))
+      arm T cmd area request AllowIovas e cmd area g o (h (w .first) (w .blocks), refl, refl)
 
-  pub copy-arm : (cmd′ : List ℕ) → opened request cmd ≡ Open Copy → (Seen os (field 4 cmd 8) (field 4 cmd 12) d → e ≡ copyDecided T cmd) → cmd′ ≡ replied 8 24 (e .errno) (e .value) cmd → Decided T request cmd area e cmd′ area
+  pub copy-arm : (cmd′ : List ℕ) → opened request cmd ≡ Open Copy → (Seen os (field 4 cmd 8) (field 4 cmd 12) d → e ≡ copyEdit os ms (copyFields cmd)) → cmd′ ≡ replied 8 24 (e .errno) (e .value) cmd → Decided T request cmd area e cmd′ area
   copy-arm cmd′ o h w =
       let k = opened-open request cmd Copy o in
       let l : 40 ≤ length cmd = omega (arith, k .known, k .lent) in
-      arm T cmd area request Copy e cmd′ area o (copy-left T cmd area e cmd′ (passed T cmd area request Copy g o)
-      (h (seen-ids os (firstId request cmd) (field 4 cmd 8) (secondId cmd) (field 4 cmd 12) d (copy-at-8 request cmd (omega (arith, l)) (sym (k .number))) (second-at-12 cmd (omega (arith, l))) s)) w)
+      arm T cmd area request Copy e cmd′ area g o
+      (h (seen-ids os (firstId request cmd) (field 4 cmd 8) (secondId cmd) (field 4 cmd 12) d (copy-at-8 request cmd (omega (arith, l)) (sym (k .number))) (second-at-12 cmd (omega (arith, l))) s), w, refl)
 
   pub ranges-arm : (cmd′ area′ : List ℕ) → opened request cmd ≡ Open IovaRanges → (Seen os (field 4 cmd 4) (secondId cmd) d → (e ≡ refuse (e .errno)) × RangesDone os (e .errno) cmd cmd′ area area′) → Decided T request cmd area e cmd′ area′
   ranges-arm cmd′ area′ o h =
       let p = h (at-4 IovaRanges o (λ z. omega (arith, z)) (λ z. omega (arith, z)) (omega arith)) in
-      arm T cmd area request IovaRanges e cmd′ area′ o (ranges-left T cmd area e cmd′ area′ (passed T cmd area request IovaRanges g o) (p .0) (p .1))
+      arm T cmd area request IovaRanges e cmd′ area′ g o (ranges-left T cmd area e cmd′ area′ (p .0) (p .1))
 
-  pub map-arm : (cmd′ : List ℕ) → opened request cmd ≡ Open Map → (Seen os (field 4 cmd 8) (secondId cmd) d → e ≡ mapDecided T cmd) → cmd′ ≡ replied 8 32 (e .errno) (e .value) cmd → Decided T request cmd area e cmd′ area
+  pub map-arm : (cmd′ : List ℕ) → opened request cmd ≡ Open Map → (Seen os (field 4 cmd 8) (secondId cmd) d → e ≡ mapEdit limit os ms (mapFields cmd)) → cmd′ ≡ replied 8 32 (e .errno) (e .value) cmd → Decided T request cmd area e cmd′ area
   map-arm cmd′ o h w =
       let k = opened-open request cmd Map o in
-      arm T cmd area request Map e cmd′ area o (map-left T cmd area e cmd′ (passed T cmd area request Map g o)
-      (h (seen-ids os (firstId request cmd) (field 4 cmd 8) (secondId cmd) (secondId cmd) d (map-at-8 request cmd (omega (arith, k .known, k .lent)) (sym (k .number))) refl s)) w)
+      arm T cmd area request Map e cmd′ area g o
+      (h (seen-ids os (firstId request cmd) (field 4 cmd 8) (secondId cmd) (secondId cmd) d (map-at-8 request cmd (omega (arith, k .known, k .lent)) (sym (k .number))) refl s), w, refl)
 
-  pub unmap-arm : (known : Bool) (cmd′ : List ℕ) → opened request cmd ≡ Open Unmap → known ≡ isSpace (d .first .kind) → (known ≡ spaceAt os (field 4 cmd 4) → e ≡ unmapDecided T cmd) → cmd′ ≡ replied 8 16 (e .errno) (e .value) cmd → Decided T request cmd area e cmd′ area
+  pub unmap-arm : (known : Bool) (cmd′ : List ℕ) → opened request cmd ≡ Open Unmap → known ≡ isSpace (d .first .kind) → (known ≡ spaceAt os (field 4 cmd 4) → e ≡ unmapEdit os ms (unmapFields cmd)) → cmd′ ≡ replied 8 16 (e .errno) (e .value) cmd → Decided T request cmd area e cmd′ area
   unmap-arm known cmd′ o k h w =
       let v = at-4 Unmap o (λ z. omega (arith, z)) (λ z. omega (arith, z)) (omega arith) in
-      arm T cmd area request Unmap e cmd′ area o (unmap-left T cmd area e cmd′ (passed T cmd area request Unmap g o) (h (space-known os (field 4 cmd 4) (secondId cmd) d known v k)) w)
+      arm T cmd area request Unmap e cmd′ area g o (h (space-known os (field 4 cmd 4) (secondId cmd) d known v k), w, refl)
 
 -- ---- by value
 

@@ -1,29 +1,18 @@
 -- What a command decides on any table, as an edit: document 01's rules up to the point where the table changes.
 use Prim.Native.Nat.{ℕ}
-use mathlib.Core.Path.{_≡_, refl}
+use mathlib.Core.Path.{_≡_}
 use mathlib.Core.Bool.{cond, _||_}
 use mathlib.Core.List.{List}
 use lib.Dec.{eqb, ltb}
 use lib.ListN.{length}
 use Rattle.wire.specs.Fields.{field}
 use Rattle.rules_calls.specs.declared.Command.{Command}
-use Rattle.rules_calls.specs.declared.Command.the-variants.{Destroy, IoasAlloc, AllowIovas, Copy, IovaRanges, Map, Unmap}
-use Rattle.rules_calls.specs.declared.Row.{Row}
-use Rattle.rules_calls.specs.declared.Row.the-variants.{Unlisted, Listed}
+use Rattle.rules_calls.specs.declared.Command.the-variants.{Destroy}
 use Rattle.rules_calls.specs.declared.Opening.{Opening}
 use Rattle.rules_calls.specs.declared.Opening.the-variants.{UnknownRequest, NoSizeField, SizeTooSmall, SizePastBytes, TailNotZero, Open}
-use Rattle.rules_calls.specs.Requests.{lookup}
 use Rattle.rules_table.specs.declared.Table.{Table}
 use Rattle.rules_calls.specs.declared.Edit.{Edit}
-use Rattle.rules_calls.specs.Edits.{applied}
-use Rattle.rules_calls.specs.Answers.{refusedBy, outcome}
-use Rattle.rules_calls.specs.Ranges.{rangesResult}
-use Rattle.rules_calls.specs.Allow.{allowAnswer}
-use Rattle.rules_calls.specs.Objects.{allocAnswer, destroyAnswer}
-use Rattle.rules_calls.specs.Unmap.{unmapAnswer}
-use Rattle.rules_calls.specs.Copy.{copyAnswer}
-use Rattle.rules_calls.specs.Map.{mapAnswer}
-use Rattle.rules_calls.specs.Call.{rowDone, callDone, rowEdit, callEdit}
+use Rattle.rules_calls.specs.Call.{callDone, callEdit}
 
 -- the ids that a command names, as far as its bytes are lent: MAP and COPY have the space at offset 8, the others an id at 4; COPY has its source at 12
 abbrev pub firstId : ℕ → List ℕ → ℕ
@@ -46,18 +35,3 @@ pub record Decided (t : Table) (request : ℕ) (bytes area : List ℕ) (e : Edit
   pub edit : e ≡ callEdit t request bytes area
   pub reply : bytes′ ≡ callDone t request bytes area .bytes
   pub ranges : area′ ≡ callDone t request bytes area .area
-
--- THE LAW: the answer of a command is its edit, applied
-pub call-edit : (t : Table) (request : ℕ) (bytes area : List ℕ) → callDone t request bytes area .answer ≡ outcome t (callEdit t request bytes area)
-unfolding callDone callEdit refusedBy outcome applied allocAnswer destroyAnswer allowAnswer rangesResult mapAnswer copyAnswer unmapAnswer
-call-edit t request bytes area = go (lookup request)
-  where
-    go : (r : Row) → rowDone r t request bytes area .answer ≡ outcome t (rowEdit r t request bytes area)
-    go Unlisted = refl
-    go (Listed Destroy size) = refl
-    go (Listed IoasAlloc size) = refl
-    go (Listed AllowIovas size) = refl
-    go (Listed Copy size) = refl
-    go (Listed IovaRanges size) = refl
-    go (Listed Map size) = refl
-    go (Listed Unmap size) = refl

@@ -5,12 +5,10 @@ ghost use mathlib.Core.Path.{_≡_};
 ghost use lib.ListN.{length};
 ghost use Rattle.rules_table.specs.declared.Object.{Object};
 ghost use Rattle.rules_table.specs.Good.{good};
-ghost use Rattle.rules_calls.specs.Answers.{freshAnswer};
+ghost use Rattle.rules_calls.specs.Answers.{outcome, outcomeId, freshAnswer};
 ghost use Rattle.digests.specs.Digest.{DigestOf, Digested};
 ghost use Rattle.rules_calls.specs.Gate.{tableWith};
-ghost use Rattle.rules_calls.specs.Reach.{reachCall};
-ghost use Rattle.rules_calls.specs.Attach.{attachCall, detachCall};
-ghost use Rattle.rules_calls.specs.Bind.{bindCall};
+ghost use Rattle.rules_calls.specs.Orders.{bindOrder, attachOrder, detachOrder, reachOrder, reachedBy, hostEdit};
 ghost use Rattle.rules_calls.specs.Call.{callDone};
 ghost use Rattle.iommufd.specs.Deciding.{firstId, secondId, commandIn, Decided};
 use digests::Digest;
@@ -139,26 +137,26 @@ pub fn call(t: Table, request: u32, cmd: &mut [u8], area: &mut [u8]) -> Answer
 
 // A new device, loose, with its page sizes and reserved ranges. The result is its id.
 pub fn bind(t: Table, bitmap: u64, reserved: Reserved) -> Answer
-    ensures { λ a. ⌜ a ≡ bindCall t bitmap reserved ⌝ }
+    ensures { λ a. ⌜ a ≡ outcomeId t (hostEdit t (bindOrder bitmap reserved)) ⌝ }
 {
     host_calls::bind(t, bitmap, reserved)
 }
 
 pub fn attach(t: Table, device: u32, space: u32) -> Answer
-    ensures { λ a. ⌜ a ≡ attachCall t device space ⌝ }
+    ensures { λ a. ⌜ a ≡ outcome t (hostEdit t (attachOrder device space)) ⌝ }
 {
     host_calls::attach(t, device, space)
 }
 
 pub fn detach(t: Table, device: u32) -> Answer
-    ensures { λ a. ⌜ a ≡ detachCall t device ⌝ }
+    ensures { λ a. ⌜ a ≡ outcome t (hostEdit t (detachOrder device)) ⌝ }
 {
     host_calls::detach(t, device)
 }
 
 // The memory that a device gets to at an address, for reading or writing. The table is only read.
 pub fn reach(t: Table, device: u32, address: u64, length: u64, write: bool) -> Reached
-    ensures { λ r. ⌜ r ≡ reachCall t device address length write ⌝ }
+    ensures { λ r. ⌜ r ≡ reachedBy (hostEdit t (reachOrder device address length write)) ⌝ }
 {
     host_calls::reach(t, device, address, length, write)
 }

@@ -3,13 +3,14 @@ use Prim.Native.Nat.{ℕ}
 use mathlib.Core.Path.{_≡_, refl, sym, ap, _∙_}
 use mathlib.Core.Bool.{Bool, true, false, not}
 use mathlib.Core.List.{List, [], _∷_}
+use mathlib.Core.Option.{Option, none, some}
 use native.Mathlib.Omega.{arith}
 use Rattle.lists.specs.Search.{any}
 use Rattle.lists.specs.Checks.{when, first, first-nil, first-fires, first-passes}
 use Rattle.ranges.specs.Ranges.{share, span}
 use Rattle.alignment.specs.declared.Spot.{Spot}
 use Rattle.alignment.specs.declared.Spot.the-variants.{Nowhere, At}
-use Rattle.alignment.specs.Multiples.{multiple, fits}
+use Rattle.alignment.specs.Multiples.{multiple, fits, spotOf}
 use Rattle.rangelists.specs.declared.Allowed.{Allowed}
 use Rattle.rangelists.specs.Listed.{allowed}
 use Rattle.rules_table.specs.Flags.{bit}
@@ -22,7 +23,8 @@ use Rattle.rules_table.specs.Spaces.{alignment, reservedOf}
 use Rattle.edits.specs.Settled.{checked, checked-last}
 use Rattle.landing.specs.declared.Target.{Target}
 use Rattle.landing.specs.declared.Placing.{Placing}
-use Rattle.rules_calls.specs.Landing.{blockedIn, automatic, isNowhere, spotAddress, taken, fixedChecks, automaticChecks, placeChecks, placeAt}
+use Rattle.rules_calls.specs.Edits.{isNone, numberIn}
+use Rattle.rules_calls.specs.Landing.{blockedIn, automatic, taken, fixedChecks, automaticChecks, placeChecks, placeAt}
 use Rattle.landing.specs.Placing.{placingOf, AutomaticPlaced, Placed}
 
 -- the checks of a fixed address
@@ -47,28 +49,28 @@ module _ (os : List Object) (ms : List Mapping) (s n : ℕ) where
   pub automatic-misfit : (a : ℕ) (b : Bool) → a ≡ alignment os s → b ≡ multiple a n → b ≡ false → AutomaticPlaced os ms s n (record { errno = 22; address = 0 })
   unfolding automaticChecks
   automatic-misfit a b ea eb e = record {
-    errno = sym (first-fires (when (not (multiple (alignment os s) n)) 22) (when (isNowhere (automatic os ms s n)) 28 ∷ []) 0 (ap (λ (c : Bool). not c) (ap (λ (y : ℕ). multiple y n) (sym ea) ∙ sym eb ∙ e)));
+    errno = sym (first-fires (when (not (multiple (alignment os s) n)) 22) (when (isNone (automatic os ms s n)) 28 ∷ []) 0 (ap (λ (c : Bool). not c) (ap (λ (y : ℕ). multiple y n) (sym ea) ∙ sym eb ∙ e)));
     address = λ z. absurd (omega (arith, z));
   }
 
-  spot-placed : multiple (alignment os s) n ≡ true → (spot : Spot) → automatic os ms s n ≡ spot → AutomaticPlaced os ms s n (placingOf spot)
+  spot-placed : multiple (alignment os s) n ≡ true → (o : Option ℕ) → automatic os ms s n ≡ o → AutomaticPlaced os ms s n (placingOf (spotOf o))
   unfolding automaticChecks
-  spot-placed m Nowhere e = record {
-    errno = sym (first-passes (when (not (multiple (alignment os s) n)) 22) (when (isNowhere (automatic os ms s n)) 28 ∷ []) 0 (ap (λ (c : Bool). not c) m) ∙ first-fires (when (isNowhere (automatic os ms s n)) 28) [] 0 (ap isNowhere e));
+  spot-placed m none e = record {
+    errno = sym (first-passes (when (not (multiple (alignment os s) n)) 22) (when (isNone (automatic os ms s n)) 28 ∷ []) 0 (ap (λ (c : Bool). not c) m) ∙ first-fires (when (isNone (automatic os ms s n)) 28) [] 0 (ap isNone e));
     address = λ z. absurd (omega (arith, z));
   }
-  spot-placed m (At x) e = record {
-    errno = sym (first-passes (when (not (multiple (alignment os s) n)) 22) (when (isNowhere (automatic os ms s n)) 28 ∷ []) 0 (ap (λ (c : Bool). not c) m) ∙ first-passes (when (isNowhere (automatic os ms s n)) 28) [] 0 (ap isNowhere e) ∙ first-nil 0);
-    address = λ z. sym (ap spotAddress e);
+  spot-placed m (some x) e = record {
+    errno = sym (first-passes (when (not (multiple (alignment os s) n)) 22) (when (isNone (automatic os ms s n)) 28 ∷ []) 0 (ap (λ (c : Bool). not c) m) ∙ first-passes (when (isNone (automatic os ms s n)) 28) [] 0 (ap isNone e) ∙ first-nil 0);
+    address = λ z. sym (ap numberIn e);
   }
 
   -- the lowest candidate
   pub automatic-found : (a : ℕ) (b : Bool) (bl : Blocked) (l : Allowed) (spot : Spot) (p : Placing) → a ≡ alignment os s → b ≡ multiple a n → b ≡ true
-      → blockedList bl ≡ blockedIn os ms s → l ≡ objectAt os s .allow → spot ≡ placeOf a n 0 (blockedList bl) (allowed l) → p ≡ placingOf spot → AutomaticPlaced os ms s n p
+      → blockedList bl ≡ blockedIn os ms s → l ≡ objectAt os s .allow → spot ≡ spotOf (placeOf a n 0 (blockedList bl) (allowed l)) → p ≡ placingOf spot → AutomaticPlaced os ms s n p
   unfolding automatic
   automatic-found a b bl l spot p ea eb e el eo es ep =
-      let same : automatic os ms s n ≡ spot = sym (es ∙ rw (ea, el, eo)) in
-      rw ep (spot-placed (ap (λ (y : ℕ). multiple y n) (sym ea) ∙ sym eb ∙ e) spot same)
+      let same : automatic os ms s n ≡ placeOf a n 0 (blockedList bl) (allowed l) = rw (ea, el, eo) refl in
+      rw (ep, es) (spot-placed (ap (λ (y : ℕ). multiple y n) (sym ea) ∙ sym eb ∙ e) (placeOf a n 0 (blockedList bl) (allowed l)) same)
 
 -- the place of a target
 module _ (os : List Object) (ms : List Mapping) (t : Target) where

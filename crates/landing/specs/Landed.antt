@@ -4,6 +4,7 @@ use Prim.Native.Nat.{ℕ, _≤_}
 use mathlib.Core.Path.{_≡_, refl, sym, ap, _∙_}
 use mathlib.Core.Bool.{Bool, true, false, not, _||_}
 use mathlib.Core.List.{List, [], _∷_, map}
+use mathlib.Core.Option.{Option, none, some}
 use native.Mathlib.Omega.{arith}
 use borrow.Author.Tests.{not-false}
 use Rattle.lists.specs.Tests.{contrary, and-both, or-not-left, or-not-right}
@@ -13,16 +14,15 @@ use Rattle.lists.specs.Update.{any-map}
 use Rattle.lists.specs.Checks.{Check, when, first, first-fires, first-passes, Refusals, passed}
 use Rattle.ranges.specs.declared.Range.{Range}
 use Rattle.ranges.specs.Ranges.{share, passes, span}
-use Rattle.alignment.specs.declared.Spot.{Spot}
-use Rattle.alignment.specs.declared.Spot.the-variants.{Nowhere, At}
-use Rattle.alignment.specs.Multiples.{multiple, fits, fits-length, Lowest}
+use Rattle.alignment.specs.Multiples.{multiple, fits, fits-length, Lowest, spotOf}
 use Rattle.rangelists.specs.Listed.{allowed}
 use Rattle.placement.specs.Lowest.{place-lowest}
 use Rattle.rules_table.specs.declared.Object.{Object}
 use Rattle.rules_table.specs.declared.Mapping.{Mapping}
 use Rattle.rules_table.specs.Records.{objectAt, ofSpace, extent, touches}
 use Rattle.rules_table.specs.Spaces.{alignment, reservedOf}
-use Rattle.rules_calls.specs.Landing.{blockedIn, lowestTried, automatic, isNowhere, spotAddress, taken, fixedChecks, automaticChecks, placeChecks, placeAt, CandidateIn}
+use Rattle.rules_calls.specs.Edits.{isNone, numberIn}
+use Rattle.rules_calls.specs.Landing.{blockedIn, lowestTried, automatic, taken, fixedChecks, automaticChecks, placeChecks, placeAt, CandidateIn}
 
 -- the blocked ranges are touched exactly where a reserved range or a mapping of the space is
 pub any-blocked : (os : List Object) (ms : List Mapping) (s : ℕ) (r : Range) → any (share r) (blockedIn os ms s) ≡ (any (share r) (reservedOf os s) || any (touches s r) ms)
@@ -39,7 +39,7 @@ pub record Landed (os : List Object) (ms : List Mapping) (s n x : ℕ) : Type 0 
 
 module _ (os : List Object) (ms : List Mapping) (s n : ℕ) where
   -- THE LAW: the automatic place is the lowest candidate, or there is none
-  pub automatic-lowest : Lowest (CandidateIn os ms s n) (automatic os ms s n)
+  pub automatic-lowest : Lowest (CandidateIn os ms s n) (spotOf (automatic os ms s n))
   unfolding automatic
   automatic-lowest = place-lowest (alignment os s) n lowestTried (blockedIn os ms s) (allowed (objectAt os s .allow))
 
@@ -50,26 +50,26 @@ module _ (os : List Object) (ms : List Mapping) (s n : ℕ) where
 
   pub none-28 : multiple (alignment os s) n ≡ true → ((x : ℕ) → CandidateIn os ms s n x → ⊥) → first (automaticChecks os ms s n) 0 ≡ 28
   unfolding automaticChecks
-  none-28 m none =
-      first-passes (when (not (multiple (alignment os s) n)) 22) (when (isNowhere (automatic os ms s n)) 28 ∷ []) 0 (ap (λ (b : Bool). not b) m)
-      ∙ first-fires (when (isNowhere (automatic os ms s n)) 28) [] 0 (go (automatic os ms s n) automatic-lowest)
+  none-28 m empty =
+      first-passes (when (not (multiple (alignment os s) n)) 22) (when (isNone (automatic os ms s n)) 28 ∷ []) 0 (ap (λ (b : Bool). not b) m)
+      ∙ first-fires (when (isNone (automatic os ms s n)) 28) [] 0 (go (automatic os ms s n) automatic-lowest)
     where
-      go : (r : Spot) → Lowest (CandidateIn os ms s n) r → isNowhere r ≡ true
-      go Nowhere l = refl
-      go (At x) l = absurd (none x (l .0))
+      go : (r : Option ℕ) → Lowest (CandidateIn os ms s n) (spotOf r) → isNone r ≡ true
+      go none l = refl
+      go (some x) l = absurd (empty x (l .0))
 
-  some-0 : multiple (alignment os s) n ≡ true → isNowhere (automatic os ms s n) ≡ false → first (automaticChecks os ms s n) 0 ≡ 0
+  some-0 : multiple (alignment os s) n ≡ true → isNone (automatic os ms s n) ≡ false → first (automaticChecks os ms s n) 0 ≡ 0
   unfolding automaticChecks first
   some-0 m e =
-      first-passes (when (not (multiple (alignment os s) n)) 22) (when (isNowhere (automatic os ms s n)) 28 ∷ []) 0 (ap (λ (b : Bool). not b) m)
-      ∙ first-passes (when (isNowhere (automatic os ms s n)) 28) [] 0 e
+      first-passes (when (not (multiple (alignment os s) n)) 22) (when (isNone (automatic os ms s n)) 28 ∷ []) 0 (ap (λ (b : Bool). not b) m)
+      ∙ first-passes (when (isNone (automatic os ms s n)) 28) [] 0 e
 
   pub only-28 : multiple (alignment os s) n ≡ true → first (automaticChecks os ms s n) 0 ≡ 28 → (x : ℕ) → CandidateIn os ms s n x → ⊥
   only-28 m e = go (automatic os ms s n) refl automatic-lowest
     where
-      go : (r : Spot) → automatic os ms s n ≡ r → Lowest (CandidateIn os ms s n) r → (x : ℕ) → CandidateIn os ms s n x → ⊥
-      go Nowhere f l = l
-      go (At y) f l = λ x c. omega (arith, sym e ∙ some-0 m (ap isNowhere f))
+      go : (r : Option ℕ) → automatic os ms s n ≡ r → Lowest (CandidateIn os ms s n) (spotOf r) → (x : ℕ) → CandidateIn os ms s n x → ⊥
+      go none f l = l
+      go (some y) f l = λ x c. omega (arith, sym e ∙ some-0 m (ap isNone f))
 
   -- an automatic place that is accepted
   module _ (e : first (automaticChecks os ms s n) 0 ≡ 0) where
@@ -77,21 +77,21 @@ module _ (os : List Object) (ms : List Mapping) (s n : ℕ) where
     unfolding automaticChecks
     length-fits = not-false (multiple (alignment os s) n) (passed (automaticChecks os ms s n) 0 (when false 0) automatic-refuse e 0 (omega arith))
 
-    somewhere : isNowhere (automatic os ms s n) ≡ false
+    somewhere : isNone (automatic os ms s n) ≡ false
     unfolding automaticChecks
     somewhere = passed (automaticChecks os ms s n) 0 (when false 0) automatic-refuse e 1 (omega arith)
 
-    pub automatic-candidate : CandidateIn os ms s n (spotAddress (automatic os ms s n)) × ((y : ℕ) → CandidateIn os ms s n y → spotAddress (automatic os ms s n) ≤ y)
+    pub automatic-candidate : CandidateIn os ms s n (numberIn (automatic os ms s n)) × ((y : ℕ) → CandidateIn os ms s n y → numberIn (automatic os ms s n) ≤ y)
     automatic-candidate = go (automatic os ms s n) automatic-lowest somewhere
       where
-        go : (r : Spot) → Lowest (CandidateIn os ms s n) r → isNowhere r ≡ false → CandidateIn os ms s n (spotAddress r) × ((y : ℕ) → CandidateIn os ms s n y → spotAddress r ≤ y)
-        go Nowhere l f = contrary true refl f
-        go (At x) l f = l
+        go : (r : Option ℕ) → Lowest (CandidateIn os ms s n) (spotOf r) → isNone r ≡ false → CandidateIn os ms s n (numberIn r) × ((y : ℕ) → CandidateIn os ms s n y → numberIn r ≤ y)
+        go none l f = contrary true refl f
+        go (some x) l f = l
 
-    automatic-landed : Landed os ms s n (spotAddress (automatic os ms s n))
+    automatic-landed : Landed os ms s n (numberIn (automatic os ms s n))
     unfolding taken
     automatic-landed =
-        let x = spotAddress (automatic os ms s n) in
+        let x = numberIn (automatic os ms s n) in
         let c = automatic-candidate .0 in
         let clear : (any (share (span x n)) (reservedOf os s) || any (touches s (span x n)) ms) ≡ false = sym (any-blocked os ms s (span x n)) ∙ c .clear in
         record {

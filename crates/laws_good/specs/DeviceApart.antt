@@ -13,30 +13,30 @@ use Rattle.rules_table.specs.Records.{freeObject, isDevice, homeOf, objectAt, s
 use Rattle.table.specs.Homes.{other-home, loose-home}
 use Rattle.rules_table.specs.Charge.{freeRecord}
 use Rattle.table.specs.Sound.{Sound}
-use Rattle.table.specs.Replaced.{objectAt-place}
+use Rattle.table.specs.Replaced.{objectAt-slot}
 use Rattle.rules_calls.specs.declared.Change.the-variants.{Put}
-use Rattle.rules_calls.specs.Edits.{accept, placed, applied}
-use Rattle.edits.specs.Untouched.{settle-untouched, put-untouched, placed-untouched}
+use Rattle.rules_calls.specs.Edits.{accept, added, applied}
+use Rattle.edits.specs.Untouched.{settle-untouched, put-untouched, added-untouched}
 use Rattle.rules_table.specs.Untouched.{Untouched}
 use Rattle.rules_calls.specs.Bind.{newDevice, bindEdit, bindRule}
 use Rattle.rules_calls.specs.Attach.{attachedObject, looseObject, attachChecks, attachEdit, detachChecks, detachEdit}
-use Rattle.laws_good.specs.DeviceKept.{device-place, is-device, not-attached, detach-passed}
+use Rattle.laws_good.specs.DeviceKept.{device-slot, is-device, not-attached, detach-passed}
 
 -- the record of a device changes, which neither before nor after is attached to s
 module _ (s : ℕ) (t : Table) (d : ℕ) (n : Object) (space : spaceAt (t .objects) s ≡ true) where
   device-untouched : isDevice (objectAt (t .objects) d .kind) ≡ true → attachedTo s (objectAt (t .objects) d .kind) ≡ false → attachedTo s (n .kind) ≡ false → Untouched s t (applied t (accept 0 (Put (d - 1)) n))
   unfolding applied
   device-untouched dev old new =
-      let p = device-place (t .objects) d dev in
+      let p = device-slot (t .objects) d dev in
       let q : suc (p .0) - 1 ≡ p .0 = omega arith in
       let place : d - 1 ≡ p .0 = ap (λ (x : ℕ). x - 1) (p .1) ∙ q in
       rw place (put-untouched s t (p .0) n (λ z. contrary (spaceAt (t .objects) (suc (p .0))) (rw (← z) space) (p .3))
-      (ap (λ (o : Object). attachedTo s (o .kind)) (sym (objectAt-place (t .objects) (p .0) freeObject (p .2))) ∙ ap (λ (x : ℕ). attachedTo s (objectAt (t .objects) x .kind)) (sym (p .1)) ∙ old) new)
+      (ap (λ (o : Object). attachedTo s (o .kind)) (sym (objectAt-slot (t .objects) (p .0) freeObject (p .2))) ∙ ap (λ (x : ℕ). attachedTo s (objectAt (t .objects) x .kind)) (sym (p .1)) ∙ old) new)
 
 pub bind-untouched : (s : ℕ) (t : Table) (bitmap : ℕ) (l : Reserved) → Sound t → spaceAt (t .objects) s ≡ true → Untouched s t (applied t (bindEdit (t .objects) bitmap l))
 unfolding bindEdit newDevice
 bind-untouched s t bitmap l g space =
-    settle-untouched s t (first (bindRule (t .objects) bitmap l) 0) (placed (freeRecord (t .objects)) (newDevice bitmap l)) (λ e. placed-untouched s t (newDevice bitmap l) g space refl)
+    settle-untouched s t (first (bindRule (t .objects) bitmap l) 0) (added (freeRecord (t .objects)) (newDevice bitmap l)) (λ e. added-untouched s t (newDevice bitmap l) g space refl)
 
 pub attach-untouched : (s : ℕ) (t : Table) (d h : ℕ) → spaceAt (t .objects) s ≡ true → (h ≡ s → ⊥) → Untouched s t (applied t (attachEdit (t .objects) (t .mappings) d h))
 unfolding attachEdit attachedObject

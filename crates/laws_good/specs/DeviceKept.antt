@@ -32,15 +32,15 @@ use Rattle.rules_table.specs.Records.{freeObject, isSpace, isDevice, isAttached
 use Rattle.rules_table.specs.Spaces.{pageFor, alignment, reservedFor}
 use Rattle.table.specs.Aligned.{alignment-power}
 use Rattle.rules_table.specs.Charge.{freeRecord}
-use Rattle.rules_table.specs.Good.{kindNames, deviceBy, listBy, listClearBy, zeroBy, deviceNames, deviceValid, listValid, listClear, objectZero, noList, reservedRest, allowRest, listsTouch}
-use Rattle.table.specs.Checked.{objectOk}
+use Rattle.rules_table.specs.Good.{deviceNames, deviceValid, listValid, listClear, objectZero, noList, reservedRest, allowRest, listsTouch}
+use Rattle.table.specs.Checked.{objectOk, kindNames, deviceBy, listClearBy, zeroBy, objectBy}
 use Rattle.table.specs.Sound.{Sound}
 use Rattle.table.specs.Facts.{UsedOk}
 use Rattle.table.specs.Replaced.{object-at-ok, objectAt-set-other, spaceAt-set-other, none-attached, hosts-none}
 use Rattle.table.specs.Moved.{Quiet}
 use Rattle.rules_calls.specs.declared.Change.the-variants.{Put}
-use Rattle.rules_calls.specs.Edits.{accept, placed, applied, settle}
-use Rattle.edits.specs.Kept.{Bears, AllBorne, put-sound, quiet-bears, elsewhere, settle-sound, placed-sound}
+use Rattle.rules_calls.specs.Edits.{accept, added, applied, settle}
+use Rattle.edits.specs.Kept.{Bears, AllBorne, put-sound, quiet-bears, elsewhere, settle-sound, added-sound}
 use Rattle.rules_table.specs.Fits.{bindChecks, deviceFits}
 use Rattle.rules_calls.specs.Bind.{onlyFirst, trimmed, newDevice, bindEdit, bindRule}
 use Rattle.rules_calls.specs.Attach.{blockedBy, misfits, alignmentWith, attachedObject, looseObject, attachChecks, attachEdit, detachChecks, detachEdit}
@@ -101,24 +101,24 @@ quiet-new : (bitmap : ℕ) (l : Reserved) → Quiet (newDevice bitmap l)
 unfolding newDevice
 quiet-new bitmap l s = refl
 
--- the check for a record says what `placed` refuses by itself
-bind-is : (os : List Object) (bitmap : ℕ) (l : Reserved) → settle (first (bindChecks bitmap l) 0) (placed (freeRecord os) (newDevice bitmap l)) ≡ bindEdit os bitmap l
+-- the check for a record says what `added` refuses by itself
+bind-is : (os : List Object) (bitmap : ℕ) (l : Reserved) → settle (first (bindChecks bitmap l) 0) (added (freeRecord os) (newDevice bitmap l)) ≡ bindEdit os bitmap l
 unfolding bindEdit bindRule
 bind-is os bitmap l = settle-record (bindChecks bitmap l) (freeRecord os) (newDevice bitmap l)
 
 pub bind-sound : (t : Table) (bitmap : ℕ) (l : Reserved) → Sound t → Sound (applied t (bindEdit (t .objects) bitmap l))
 bind-sound t bitmap l g =
     rw (sym (bind-is (t .objects) bitmap l))
-    (settle-sound t (first (bindChecks bitmap l) 0) (placed (freeRecord (t .objects)) (newDevice bitmap l)) g
-    (λ e. placed-sound t (newDevice bitmap l) g (quiet-new bitmap l) (new-device-ok bitmap l e)))
+    (settle-sound t (first (bindChecks bitmap l) 0) (added (freeRecord (t .objects)) (newDevice bitmap l)) g
+    (λ e. added-sound t (newDevice bitmap l) g (quiet-new bitmap l) (new-device-ok bitmap l e)))
 
 -- ---- attach and detach
 
 -- an id that is a device has a place, and is no space
-pub device-place : (os : List Object) (d : ℕ) → isDevice (objectAt os d .kind) ≡ true → (i : ℕ) × (d ≡ suc i) × (i < ListN.length os) × (spaceAt os (suc i) ≡ false)
+pub device-slot : (os : List Object) (d : ℕ) → isDevice (objectAt os d .kind) ≡ true → (i : ℕ) × (d ≡ suc i) × (i < ListN.length os) × (spaceAt os (suc i) ≡ false)
 unfolding spaceAt objectAt
-device-place os zero e = contrary false e refl
-device-place os (suc i) e =
+device-slot os zero e = contrary false e refl
+device-slot os (suc i) e =
     by-test (leb (ListN.length os) i)
     (λ t. contrary false (sym (ap (λ (o : Object). isDevice (o .kind)) (List·getD-eq-default os freeObject (leb-true (ListN.length os) i t))) ∙ e) refl)
     (λ t. (i, refl, leb-false (ListN.length os) i t, no-space (getD os i freeObject .kind) e))
@@ -133,7 +133,7 @@ abbrev fieldsOk : Object → Bool
 fieldsOk o = deviceFits o && (reservedRest o && noList o)
 
 device-by : (os : List Object) (o : Object) (k : Kind) → isDevice k ≡ true
-    → (kindNames os k && (deviceBy o k && (listBy o k && (listClearBy os o k && zeroBy o k)))) ≡ true → fieldsOk o ≡ true
+    → objectBy os o k ≡ true → fieldsOk o ≡ true
 device-by os o Free d e = contrary false d refl
 device-by os o Space d e = contrary false d refl
 device-by os o (Device a) d e =
@@ -168,7 +168,7 @@ pub device-put : (t : Table) (d : ℕ) (n : Object) → Sound t → isDevice (ob
     → ((i : ℕ) → d ≡ suc i → spaceAt (t .objects) (suc i) ≡ false → (objectOk (set (t .objects) i n) n ≡ true) × AllBorne t i n) → Sound (applied t (accept 0 (Put (d - 1)) n))
 unfolding applied
 device-put t d n g dev f =
-    let p = device-place (t .objects) d dev in
+    let p = device-slot (t .objects) d dev in
     let k = f (p .0) (p .1) (p .3) in
     let s : suc (p .0) - 1 ≡ p .0 = omega arith in
     let place : d - 1 ≡ p .0 = ap (λ (x : ℕ). x - 1) (p .1) ∙ s in
@@ -180,7 +180,7 @@ detach-sound t d g =
     settle-sound t (first (detachChecks (objectAt (t .objects) d)) 0) (accept 0 (Put (d - 1)) (looseObject (objectAt (t .objects) d))) g
     (λ e.
     let dev = detach-passed (objectAt (t .objects) d) e in
-    let p = device-place (t .objects) d dev in
+    let p = device-slot (t .objects) d dev in
     let ok : objectOk (t .objects) (objectAt (t .objects) d) ≡ true = rw (p .1) (object-at-ok (t .objects) (p .0) (p .2) (g .objects)) in
     let fields = device-fields (t .objects) (objectAt (t .objects) d) dev ok in
     device-put t d (looseObject (objectAt (t .objects) d)) g dev
@@ -271,7 +271,7 @@ attach-sound t d s g =
     settle-sound t (first (attachChecks os ms o s) 0) (accept 0 (Put (d - 1)) (attachedObject o s)) g
     (λ e.
     let dev = is-device os ms o s e in
-    let p = device-place os d dev in
+    let p = device-slot os d dev in
     let ok : objectOk os o ≡ true = rw (p .1) (object-at-ok os (p .0) (p .2) (g .objects)) in
     let fields = device-fields os o dev ok in
     device-put t d (attachedObject o s) g dev

@@ -12,8 +12,9 @@ use Rattle.rules_calls.specs.Answers.{outcome, outcomeId}
 use Rattle.edits.specs.Kept.{settle-sound}
 use Rattle.edits.specs.Untouched.{settle-untouched}
 use Rattle.rules_table.specs.Untouched.{Untouched}
-use Rattle.rules_calls.specs.Bind.{bindEdit, bindCall}
-use Rattle.rules_calls.specs.Attach.{attachEdit, detachEdit, attachCall, detachCall}
+use Rattle.rules_calls.specs.Bind.{bindEdit}
+use Rattle.rules_calls.specs.Attach.{attachEdit, detachEdit}
+use Rattle.rules_calls.specs.Named.{bindCall, attachCall, detachCall}
 use Rattle.laws_good.specs.DeviceKept.{bind-sound, attach-sound, detach-sound}
 use Rattle.laws_good.specs.DeviceApart.{bind-untouched, attach-untouched, detach-untouched}
 use Rattle.rules_calls.specs.Gate.{tableErrno}

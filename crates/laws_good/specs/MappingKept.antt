@@ -19,7 +19,7 @@ use Rattle.table.specs.Facts.{used-record}
 use Rattle.table.specs.Charged.{free-backing}
 use Rattle.table.specs.Joined.{agree-new, agree-joined, charge-new, charge-joined}
 use Rattle.rules_calls.specs.declared.Change.the-variants.{Map, Clear}
-use Rattle.rules_calls.specs.Edits.{accept, applied, isNone}
+use Rattle.rules_calls.specs.Edits.{accept, applied, isNone, numberIn}
 use Rattle.edits.specs.Kept.{settle-sound}
 use Rattle.edits.specs.Untouched.{untouched-same, settle-untouched}
 use Rattle.rules_table.specs.Untouched.{Untouched}
@@ -28,7 +28,7 @@ use Rattle.rules_calls.specs.Copy.{sourceOf, sourceMapping, copyOf, copying, co
 use Rattle.rules_calls.specs.Unmap.{removedBytes, rangeAsked, unmapEdit}
 use Rattle.rules_calls.specs.Landing.{placeAt}
 use Rattle.landing.specs.Landed.{Landed, place-landed}
-use Rattle.rules_calls.specs.Map.{numberIn, mapped, foundOf, founding, mapEdit}
+use Rattle.rules_calls.specs.Map.{mapped, foundOf, founding, mapEdit}
 use Rattle.laws_mapping.specs.Passed.{MapPassed, map-passed, CopyPassed, copy-passed}
 use Rattle.laws_mapping.specs.Made.{free-record, free-number, found-used, found-alone, found-ok, SourceIs, source-is, copy-used, copy-alone, copy-ok, copy-shares}
 use Rattle.edits.specs.Numbers.{mapChecksAt, mapEditAt, copyChecksAt, copyEditAt, unmapChecksAt, unmapEditAt}

@@ -15,22 +15,22 @@ use Rattle.rules_table.specs.Records.{freeObject, newSpace, objectAt, spaceAt, 
 use Rattle.table.specs.Homes.{loose-home}
 use Rattle.rules_table.specs.Charge.{freeRecord}
 use Rattle.table.specs.Sound.{Sound}
-use Rattle.table.specs.Replaced.{objectAt-place, spaceAt-place}
+use Rattle.table.specs.Replaced.{objectAt-slot, spaceAt-slot}
 use Rattle.rules_calls.specs.declared.Change.the-variants.{Put}
-use Rattle.rules_calls.specs.Edits.{accept, placed, applied}
-use Rattle.edits.specs.Untouched.{settle-untouched, put-untouched, drop-untouched, placed-untouched}
+use Rattle.rules_calls.specs.Edits.{accept, added, applied}
+use Rattle.edits.specs.Untouched.{settle-untouched, put-untouched, drop-untouched, added-untouched}
 use Rattle.rules_table.specs.Untouched.{Untouched}
 use Rattle.rules_calls.specs.Objects.{allocChecks, allocEdit, destroyChecks, removal, destroyEdit}
 use Rattle.rules_calls.specs.Allow.{areaList, withAllow, allowEdit}
-use Rattle.laws_good.specs.SpaceKept.{object-place, is-object, is-loose, allow-space, is-kind}
+use Rattle.laws_good.specs.SpaceKept.{object-slot, is-object, is-loose, allow-space, is-kind}
 use Rattle.edits.specs.Numbers.{allowChecksAt, allowEditAt}
 
 pub alloc-untouched : (s : ℕ) (t : Table) (flags : ℕ) → Sound t → spaceAt (t .objects) s ≡ true → Untouched s t (applied t (allocEdit (t .objects) flags))
 unfolding allocEdit
-alloc-untouched s t flags g space = settle-untouched s t (first (allocChecks (t .objects) flags) 0) (placed (freeRecord (t .objects)) newSpace) (λ e. placed-untouched s t newSpace g space refl)
+alloc-untouched s t flags g space = settle-untouched s t (first (allocChecks (t .objects) flags) 0) (added (freeRecord (t .objects)) newSpace) (λ e. added-untouched s t newSpace g space refl)
 
-at-place : (os : List Object) (s id i : ℕ) → id ≡ suc i → i < ListN.length os → attachedTo s (objectAt os id .kind) ≡ false → attachedTo s (getD os i freeObject .kind) ≡ false
-at-place os s id i p h e = ap (λ (o : Object). attachedTo s (o .kind)) (sym (objectAt-place os i freeObject h)) ∙ ap (λ (x : ℕ). attachedTo s (objectAt os x .kind)) (sym p) ∙ e
+at-slot : (os : List Object) (s id i : ℕ) → id ≡ suc i → i < ListN.length os → attachedTo s (objectAt os id .kind) ≡ false → attachedTo s (getD os i freeObject .kind) ≡ false
+at-slot os s id i p h e = ap (λ (o : Object). attachedTo s (o .kind)) (sym (objectAt-slot os i freeObject h)) ∙ ap (λ (x : ℕ). attachedTo s (objectAt os x .kind)) (sym p) ∙ e
 
 removed-untouched : (s : ℕ) (t : Table) (i : ℕ) (k : Kind) → (s ≡ suc i → ⊥) → attachedTo s (getD (t .objects) i freeObject .kind) ≡ false → Untouched s t (applied t (accept 0 (removal k i) freeObject))
 unfolding applied
@@ -44,10 +44,10 @@ destroy-untouched s t id ne =
     let os = t .objects in
     settle-untouched s t (first (destroyChecks os id) 0) (accept 0 (removal (objectAt os id .kind) (id - 1)) freeObject)
     (λ e.
-    let p = object-place os id (is-object os id e) in
+    let p = object-slot os id (is-object os id e) in
     let q : suc (p .0) - 1 ≡ p .0 = omega arith in
     let place : id - 1 ≡ p .0 = ap (λ (x : ℕ). x - 1) (p .1) ∙ q in
-    rw place (removed-untouched s t (p .0) (objectAt os id .kind) (λ z. ne (p .1 ∙ sym z)) (at-place os s id (p .0) (p .1) (p .2) (loose-home (objectAt os id .kind) s (is-loose os id e)))))
+    rw place (removed-untouched s t (p .0) (objectAt os id .kind) (λ z. ne (p .1 ∙ sym z)) (at-slot os s id (p .0) (p .1) (p .2) (loose-home (objectAt os id .kind) s (is-loose os id e)))))
 
 space-kind : (os : List Object) (h : ℕ) → spaceAt os h ≡ true → objectAt os h .kind ≡ Space
 unfolding spaceAt
@@ -60,8 +60,8 @@ allow-untouched s t h count z area ne =
     settle-untouched s t (first (allowChecksAt os h count z area) 0) (accept 0 (Put (h - 1)) (withAllow (objectAt os h) (areaList count area)))
     (λ e.
     let sp = allow-space os h count z area e in
-    let p = spaceAt-place os h sp in
+    let p = spaceAt-slot os h sp in
     let k = space-kind os h sp in
     let q : suc (p .0) - 1 ≡ p .0 = omega arith in
     let place : h - 1 ≡ p .0 = ap (λ (x : ℕ). x - 1) (p .1) ∙ q in
-    rw place (put-untouched s t (p .0) (withAllow (objectAt os h) (areaList count area)) (λ y. ne (p .1 ∙ sym y)) (at-place os s h (p .0) (p .1) (p .2) (ap (attachedTo s) k)) (ap (attachedTo s) k)))
+    rw place (put-untouched s t (p .0) (withAllow (objectAt os h) (areaList count area)) (λ y. ne (p .1 ∙ sym y)) (at-slot os s h (p .0) (p .1) (p .2) (ap (attachedTo s) k)) (ap (attachedTo s) k)))

@@ -13,8 +13,8 @@ use Rattle.rules_calls.specs.Answers.{outcome}
 use Rattle.edits.specs.Kept.{settle-sound}
 use Rattle.edits.specs.Untouched.{settle-untouched}
 use Rattle.rules_table.specs.Untouched.{Untouched}
-use Rattle.rules_calls.specs.Objects.{allocEdit, destroyEdit, allocCall, allocAnswer, destroyAnswer}
-use Rattle.rules_calls.specs.Allow.{allowAnswer}
+use Rattle.rules_calls.specs.Objects.{allocEdit, destroyEdit}
+use Rattle.rules_calls.specs.Named.{allocCall, allocAnswer, destroyAnswer, allowAnswer}
 use Rattle.laws_good.specs.SpaceKept.{alloc-sound, destroy-sound, allow-sound}
 use Rattle.laws_good.specs.SpaceApart.{alloc-untouched, destroy-untouched, allow-untouched}
 use Rattle.rules_calls.specs.Gate.{gateErrno}

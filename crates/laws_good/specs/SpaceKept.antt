@@ -27,15 +27,16 @@ use Rattle.rules_table.specs.Spaces.{reservedFor, reservedOf}
 use Rattle.table.specs.Aligned.{any-reservedOf}
 use Rattle.rules_table.specs.Charge.{freeRecord}
 use Rattle.rules_table.specs.Fits.{listFits}
-use Rattle.rules_table.specs.Good.{kindNames, deviceBy, listBy, listClearBy, zeroBy, deviceNames, deviceValid, listValid, listClear, objectZero, noDevice, noList, reservedRest, allowRest, listsTouch}
-use Rattle.table.specs.Checked.{objectOk}
+use Rattle.rules_table.specs.Good.{deviceNames, deviceValid, listValid, listClear, objectZero, noDevice, noList, reservedRest, allowRest, listsTouch}
+use Rattle.table.specs.Checked.{objectOk, listBy, objectBy}
 use Rattle.table.specs.Sound.{Sound}
 use Rattle.table.specs.Facts.{UsedOk}
-use Rattle.table.specs.Replaced.{object-at-ok, spaceAt-place, spaceAt-set-same, spaceAt-set-other, hosts-none, Hosts}
+use Rattle.table.specs.Replaced.{object-at-ok, spaceAt-slot, spaceAt-set-same, spaceAt-set-other, hosts-none, Hosts}
 use Rattle.table.specs.Moved.{Quiet}
 use Rattle.rules_calls.specs.declared.Change.the-variants.{Put}
-use Rattle.rules_calls.specs.Edits.{accept, placed, putObject, applied}
-use Rattle.edits.specs.Kept.{put-sound, drop-sound, free-ok, quiet-bears, elsewhere, settle-sound, placed-sound}
+use Rattle.rules_calls.specs.Edits.{accept, added, applied}
+use Rattle.edits.specs.Parts.{putObject}
+use Rattle.edits.specs.Kept.{put-sound, drop-sound, free-ok, quiet-bears, elsewhere, settle-sound, added-sound}
 use Rattle.rules_calls.specs.Objects.{allocChecks, allocEdit, inUse, destroyChecks, removal, destroyEdit}
 use Rattle.rules_calls.specs.Allow.{numberAt, column, areaList, withAllow, listChecks, allowEdit, allowNumberChecks, allowChecks}
 use Rattle.edits.specs.Numbers.{allowChecksAt, allowEditAt}
@@ -51,7 +52,7 @@ quiet-space s = refl
 
 pub alloc-sound : (t : Table) (flags : ℕ) → Sound t → Sound (applied t (allocEdit (t .objects) flags))
 unfolding allocEdit
-alloc-sound t flags g = settle-sound t (first (allocChecks (t .objects) flags) 0) (placed (freeRecord (t .objects)) newSpace) g (λ e. placed-sound t newSpace g quiet-space new-space-ok)
+alloc-sound t flags g = settle-sound t (first (allocChecks (t .objects) flags) 0) (added (freeRecord (t .objects)) newSpace) g (λ e. added-sound t newSpace g quiet-space new-space-ok)
 
 -- ---- DESTROY
 
@@ -73,10 +74,10 @@ module _ (os : List Object) (id : ℕ) (e : first (destroyChecks os id) 0 ≡ 0)
   none-there = or-not-right (isAttached (objectAt os id .kind)) (any (λ o. attachedTo id (o .kind)) os) (destroy-passed 1 (omega arith))
 
 -- an id that is an object has a place
-pub object-place : (os : List Object) (id : ℕ) → isFree (objectAt os id .kind) ≡ false → (i : ℕ) × (id ≡ suc i) × (i < ListN.length os)
+pub object-slot : (os : List Object) (id : ℕ) → isFree (objectAt os id .kind) ≡ false → (i : ℕ) × (id ≡ suc i) × (i < ListN.length os)
 unfolding objectAt
-object-place os zero e = contrary true refl e
-object-place os (suc i) e =
+object-slot os zero e = contrary true refl e
+object-slot os (suc i) e =
     by-test (leb (ListN.length os) i)
     (λ t. contrary true refl (ap (λ (o : Object). isFree (o .kind)) (sym (List·getD-eq-default os freeObject (leb-true (ListN.length os) i t))) ∙ e))
     (λ t. (i, refl, leb-false (ListN.length os) i t))
@@ -103,7 +104,7 @@ unfolding destroyEdit
 destroy-sound t id g =
     settle-sound t (first (destroyChecks (t .objects) id) 0) (accept 0 (removal (objectAt (t .objects) id .kind) (id - 1)) freeObject) g
     (λ e.
-    let p = object-place (t .objects) id (is-object (t .objects) id e) in
+    let p = object-slot (t .objects) id (is-object (t .objects) id e) in
     let s : suc (p .0) - 1 ≡ p .0 = omega arith in
     let place : id - 1 ≡ p .0 = ap (λ (x : ℕ). x - 1) (p .1) ∙ s in
     rw place (removed-sound t (p .0) (objectAt (t .objects) id .kind) g (omega (arith, p .2, g .places)) (ap (λ (x : ℕ). objectAt (t .objects) x .kind) (sym (p .1)))
@@ -176,7 +177,7 @@ unfolding reservedFor listsTouch
 clear-of s o qs c a = sym (rw a) ∙ c
 
 -- the rules of a space that has no device's fields
-space-by : (os : List Object) (o : Object) (k : Kind) → isSpace k ≡ true → (kindNames os k && (deviceBy o k && (listBy o k && (listClearBy os o k && zeroBy o k)))) ≡ true → noDevice o ≡ true
+space-by : (os : List Object) (o : Object) (k : Kind) → isSpace k ≡ true → objectBy os o k ≡ true → noDevice o ≡ true
 space-by os o Free s e = contrary false s refl
 space-by os o Space s e = let l = listBy o Space in and-left (noDevice o) (allowRest o) (and-right l (true && (noDevice o && allowRest o)) e)
 space-by os o (Device a) s e = contrary false s refl
@@ -236,7 +237,7 @@ allow-sound t s count z area g =
     settle-sound t (first (allowChecksAt (t .objects) s count z area) 0) (accept 0 (Put (s - 1)) (withAllow (objectAt (t .objects) s) (areaList count area))) g
     (λ e.
     let n = withAllow (objectAt (t .objects) s) (areaList count area) in
-    let p = spaceAt-place (t .objects) s (allow-space (t .objects) s count z area e) in
+    let p = spaceAt-slot (t .objects) s (allow-space (t .objects) s count z area e) in
     let q : suc (p .0) - 1 ≡ p .0 = omega arith in
     let place : s - 1 ≡ p .0 = ap (λ (x : ℕ). x - 1) (p .1) ∙ q in
     rw place (put-sound t (p .0) n g (omega (arith, p .2, g .places)) (hosts-listed t s count z area g e (p .0) (p .1)) (listed-ok t s count z area g e (set (t .objects) (p .0) n) (p .0) (p .1) (p .2))

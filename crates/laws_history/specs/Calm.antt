@@ -17,16 +17,18 @@ use Rattle.rules_table.specs.declared.Object.{Object}
 use Rattle.rules_table.specs.declared.Table.{Table}
 use Rattle.rules_table.specs.Records.{isSpace, isDevice, objectAt, spaceAt}
 use Rattle.rules_table.specs.Charge.{freeRecord}
-use Rattle.table.specs.Replaced.{spaceAt-place, spaceAt-set-same, spaceAt-set-other}
+use Rattle.table.specs.Replaced.{spaceAt-slot, spaceAt-set-same, spaceAt-set-other}
 use Rattle.rules_calls.specs.declared.Change.the-variants.{Put}
 use Rattle.rules_calls.specs.declared.Edit.{Edit}
-use Rattle.rules_calls.specs.Edits.{accept, settle, placed, putObject, applied}
+use Rattle.rules_calls.specs.Edits.{accept, settle, added, applied}
+use Rattle.edits.specs.Parts.{putObject}
 use Rattle.rules_calls.specs.Answers.{outcome, outcomeId}
-use Rattle.edits.specs.Kept.{free-place}
-use Rattle.rules_calls.specs.Bind.{newDevice, bindEdit, bindCall, bindRule}
-use Rattle.rules_calls.specs.Attach.{attachedObject, looseObject, attachChecks, attachEdit, detachChecks, detachEdit, attachCall, detachCall}
-use Rattle.laws_good.specs.DeviceKept.{device-place, detach-passed, is-device}
-use Rattle.rules_calls.specs.Allow.{areaList, withAllow, allowAnswer, allowEdit}
+use Rattle.edits.specs.Kept.{free-slot}
+use Rattle.rules_calls.specs.Bind.{newDevice, bindEdit, bindRule}
+use Rattle.rules_calls.specs.Attach.{attachedObject, looseObject, attachChecks, attachEdit, detachChecks, detachEdit}
+use Rattle.laws_good.specs.DeviceKept.{device-slot, detach-passed, is-device}
+use Rattle.rules_calls.specs.Allow.{areaList, withAllow, allowEdit}
+use Rattle.rules_calls.specs.Named.{bindCall, attachCall, detachCall, allowAnswer}
 use Rattle.laws_good.specs.SpaceKept.{allow-space}
 use Rattle.rules_calls.specs.Gate.{gateErrno, tableErrno}
 use Rattle.edits.specs.Numbers.{allowChecksAt, allowEditAt}
@@ -46,7 +48,7 @@ spaces-put os i n h e s =
     (λ q. spaceAt-set-other os i n s (eqb-false s (suc i) q))
 
 put-calm : (t : Table) (i : ℕ) (n : Object) → i < ListN.length (t .objects) → isSpace (n .kind) ≡ spaceAt (t .objects) (suc i) → Calm t (putObject t i n)
-unfolding putObject
+unfolding applied
 put-calm t i n h e = record { mappings = refl; spaces = spaces-put (t .objects) i n h e }
 
 settle-calm : (t : Table) (n : ℕ) (e : Edit) → (n ≡ 0 → Calm t (applied t e)) → Calm t (applied t (settle n e))
@@ -55,19 +57,19 @@ settle-calm t zero e h = h refl
 settle-calm t (suc n) e h = calm-same t
 
 -- a device in a free record
-placed-calm : (t : Table) (n : Object) → isSpace (n .kind) ≡ false → Calm t (applied t (placed (freeRecord (t .objects)) n))
+added-calm : (t : Table) (n : Object) → isSpace (n .kind) ≡ false → Calm t (applied t (added (freeRecord (t .objects)) n))
 unfolding applied
-placed-calm t n e = go (freeRecord (t .objects)) refl
+added-calm t n e = go (freeRecord (t .objects)) refl
   where
-    go : (o : Option ℕ) → freeRecord (t .objects) ≡ o → Calm t (applied t (placed o n))
+    go : (o : Option ℕ) → freeRecord (t .objects) ≡ o → Calm t (applied t (added o n))
     go none f = calm-same t
-    go (some i) f = let p = free-place (t .objects) i f in put-calm t i n (p .0) (e ∙ sym (p .1))
+    go (some i) f = let p = free-slot (t .objects) i f in put-calm t i n (p .0) (e ∙ sym (p .1))
 
 -- a device stays a device
 device-calm : (t : Table) (d : ℕ) (n : Object) → isSpace (n .kind) ≡ false → isDevice (objectAt (t .objects) d .kind) ≡ true → Calm t (applied t (accept 0 (Put (d - 1)) n))
 unfolding applied
 device-calm t d n e k =
-    let p = device-place (t .objects) d k in
+    let p = device-slot (t .objects) d k in
     let z : suc (p .0) - 1 ≡ p .0 = omega arith in
     let q : d - 1 ≡ p .0 = ap (λ (x : ℕ). x - 1) (p .1) ∙ z in
     rw q (put-calm t (p .0) n (p .2) (e ∙ sym (p .3)))
@@ -76,7 +78,7 @@ device-calm t d n e k =
 allow-put : (t : Table) (h : ℕ) (n : Object) → isSpace (n .kind) ≡ true → spaceAt (t .objects) h ≡ true → Calm t (applied t (accept 0 (Put (h - 1)) n))
 unfolding applied
 allow-put t h n k sp =
-    let p = spaceAt-place (t .objects) h sp in
+    let p = spaceAt-slot (t .objects) h sp in
     let z : suc (p .0) - 1 ≡ p .0 = omega arith in
     let q : h - 1 ≡ p .0 = ap (λ (x : ℕ). x - 1) (p .1) ∙ z in
     rw q (put-calm t (p .0) n (p .2) (k ∙ sym (ap (spaceAt (t .objects)) (sym (p .1)) ∙ sp)))
@@ -96,7 +98,7 @@ allow-calm t bytes area =
 pub bind-calm : (t : Table) (bitmap : ℕ) (l : Reserved) → Calm t (bindCall t bitmap l .table)
 unfolding bindCall outcomeId bindEdit newDevice
 bind-calm t bitmap l =
-    settle-calm t (tableErrno t) (bindEdit (t .objects) bitmap l) (λ z. settle-calm t (first (bindRule (t .objects) bitmap l) 0) (placed (freeRecord (t .objects)) (newDevice bitmap l)) (λ e. placed-calm t (newDevice bitmap l) refl))
+    settle-calm t (tableErrno t) (bindEdit (t .objects) bitmap l) (λ z. settle-calm t (first (bindRule (t .objects) bitmap l) 0) (added (freeRecord (t .objects)) (newDevice bitmap l)) (λ e. added-calm t (newDevice bitmap l) refl))
 
 pub attach-calm : (t : Table) (d s : ℕ) → Calm t (attachCall t d s .table)
 unfolding attachCall outcome attachEdit attachedObject

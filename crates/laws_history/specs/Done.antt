@@ -25,13 +25,13 @@ use Rattle.edits.specs.Numbers.{mapChecksAt, mapEditAt, copyChecksAt, copyEditA
 -- ---- MAP
 
 pub record MapDone (t : Table) (flags s memory n x : ℕ) (e : Edit) : Type 0 where
-  pub place : ℕ
+  pub slot : ℕ
   pub number : ℕ
   pub address : ℕ
-  pub free : freeMapping (t .mappings) ≡ some place
+  pub free : freeMapping (t .mappings) ≡ some slot
   pub unused : freeBacking (t .mappings) ≡ some number
   pub passed : MapPassed (t .limit) (t .objects) (t .mappings) flags s memory n x
-  pub is : e ≡ accept address (Map place (foundOf number flags s memory n address)) freeObject
+  pub is : e ≡ accept address (Map slot (foundOf number flags s memory n address)) freeObject
 
 pub map-done : (t : Table) (flags s z memory n x : ℕ) → Sound t → mapEditAt (t .limit) (t .objects) (t .mappings) flags s z memory n x .errno ≡ 0
     → MapDone t flags s memory n x (mapEditAt (t .limit) (t .objects) (t .mappings) flags s z memory n x)
@@ -48,7 +48,7 @@ map-done t flags s z memory n x g e =
     go p (some i) f =
         let b = free-backing (t .objects) (t .mappings) i (g .counted) (g .records) f in
         record {
-          place = i;
+          slot = i;
           number = b .0;
           address = placeAt (t .objects) (t .mappings) s (bit 0 flags) n x;
           free = f;
@@ -65,13 +65,13 @@ map-done t flags s z memory n x g e =
 -- ---- COPY
 
 pub record CopyDone (t : Table) (flags target source n x y : ℕ) (e : Edit) : Type 0 where
-  pub place : ℕ
+  pub slot : ℕ
   pub address : ℕ
   pub from : Mapping
-  pub free : freeMapping (t .mappings) ≡ some place
+  pub free : freeMapping (t .mappings) ≡ some slot
   pub sought : sourceOf (t .mappings) source y n ≡ some from
   pub passed : CopyPassed (t .objects) (t .mappings) flags target source n x y
-  pub is : e ≡ accept address (Map place (copyOf from flags target n address)) freeObject
+  pub is : e ≡ accept address (Map slot (copyOf from flags target n address)) freeObject
 
 pub copy-done : (t : Table) (flags target source n x y : ℕ) → copyEditAt (t .objects) (t .mappings) flags target source n x y .errno ≡ 0
     → CopyDone t flags target source n x y (copyEditAt (t .objects) (t .mappings) flags target source n x y)
@@ -87,7 +87,7 @@ copy-done t flags target source n x y e =
     go p none f r k = contrary true refl (sym (ap (λ (q : Option ℕ). isNone q) f) ∙ p .free)
     go p (some i) f none k = contrary true refl (sym (ap (λ (q : Option Mapping). isNone q) k) ∙ p .found-source)
     go p (some i) f (some m) k = record {
-      place = i;
+      slot = i;
       address = placeAt (t .objects) (t .mappings) target (bit 0 flags) n x;
       from = m;
       free = f;

@@ -27,12 +27,14 @@ use Rattle.table.specs.Checked.{recordOk}
 use Rattle.table.specs.Sound.{Backing, Agree, good-sound}
 use Rattle.table.specs.Cleared.{release-true, release-false, release-records, release-agree}
 use Rattle.table.specs.Charged.{infoPages, charge-info}
-use Rattle.rules_calls.specs.Edits.{accept, settle, applied, clearInside, dropSpace}
+use Rattle.rules_calls.specs.Edits.{accept, settle, applied}
+use Rattle.edits.specs.Parts.{dropSpace, clearInside}
 use Rattle.rules_calls.specs.Answers.{outcome}
 use Rattle.rules_calls.specs.Gate.{gateErrno}
-use Rattle.rules_calls.specs.Objects.{destroyChecks, removal, destroyEdit, destroyAnswer}
-use Rattle.laws_good.specs.SpaceKept.{is-object, object-place, is-kind}
-use Rattle.rules_calls.specs.Unmap.{rangeAsked, unmapAnswer}
+use Rattle.rules_calls.specs.Objects.{destroyChecks, removal, destroyEdit}
+use Rattle.laws_good.specs.SpaceKept.{is-object, object-slot, is-kind}
+use Rattle.rules_calls.specs.Unmap.{rangeAsked}
+use Rattle.rules_calls.specs.Named.{destroyAnswer, unmapAnswer}
 use Rattle.laws_mapping.specs.Passed.{settled-zero}
 use Rattle.laws_mapping.specs.Accepted.{accepted}
 use Rattle.laws_history.specs.Steps.{unmap-after}
@@ -97,11 +99,11 @@ release-freed os info ms ok agree p =
 -- ---- by the edit: UNMAP's and DESTROY's
 
 pub clear-freed : (t : Table) → good t ≡ true → (s : ℕ) (r : Range) → charge (t .mappings) ≡ charge (clearInside t s r .mappings) + freed (within s r) (t .mappings)
-unfolding clearInside
+unfolding applied
 clear-freed t g s r = let k = good-sound t g in release-freed (t .objects) (k .info) (t .mappings) (k .records) (k .agree) (within s r)
 
 pub drop-freed : (t : Table) → good t ≡ true → (i : ℕ) → i < 32 → charge (t .mappings) ≡ charge (dropSpace t i .mappings) + freed (ofSpace (i + 1)) (t .mappings)
-unfolding dropSpace
+unfolding applied
 drop-freed t g i h = let k = good-sound t g in rw (lt-leb 32 i h) (release-freed (t .objects) (k .info) (t .mappings) (k .records) (k .agree) (ofSpace (i + 1)))
 
 -- an accepted UNMAP, in its bytes
@@ -118,7 +120,7 @@ destroy-freed t g bytes ok space =
     let id = field 4 bytes 4 in
     let a = accepted t 0x3B80 bytes (destroyEdit os id) ok in
     let c = settled-zero (first (destroyChecks os id) 0) (accept 0 (removal (objectAt os id .kind) (id - 1)) freeObject) (a .errno) in
-    let p = object-place os id (is-object os id c) in
+    let p = object-slot os id (is-object os id c) in
     let z : suc (p .0) - 1 ≡ p .0 = omega arith in
     let n : p .0 + 1 ≡ id = let y = p .1 in omega (arith, y) in
     let at : id - 1 ≡ p .0 = ap (λ (x : ℕ). x - 1) (p .1) ∙ z in

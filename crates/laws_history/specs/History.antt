@@ -1,12 +1,11 @@
 -- Demand 3, whole: any fresh table, every sequence of the eleven calls, refused ones and unknown requests among them, whatever bytes and numbers each is lent.
 use Prim.Native.Nat.{ℕ, zero, suc, _≤_, _<_, _^_}
-use mathlib.Core.Path.{_≡_, refl, sym, ap, _∙_}
+use mathlib.Core.Path.{_≡_, refl, sym, ap, subst, _∙_}
 use mathlib.Core.Bool.{Bool, true, false, _&&_}
 use mathlib.Core.List.{List, [], _∷_}
 use native.Mathlib.Omega.{arith}
-use lib.Dec.{leb}
 use lib.ListN.{getD, replicate}
-use Rattle.lists.specs.Tests.{by-test, contrary, onlyIf}
+use Rattle.lists.specs.Tests.{contrary, onlyIf}
 use Rattle.lists.specs.Search.{any}
 use Rattle.lists.specs.Each.{Each-replicate}
 use Rattle.lists.specs.Sums.{sumOf, sumOf-nil, sumOf-replicate}
@@ -15,7 +14,7 @@ use Rattle.rules_calls.specs.declared.Command.{Command}
 use Rattle.rules_calls.specs.declared.Command.the-variants as Named
 use Rattle.rules_calls.specs.declared.Row.{Row}
 use Rattle.rules_calls.specs.declared.Row.the-variants.{Unlisted, Listed}
-use Rattle.rules_calls.specs.Requests.{lookup}
+use Rattle.rules_calls.specs.Requests.{number, lookup}
 use Rattle.rules_table.specs.declared.Object.{Object}
 use Rattle.rules_table.specs.declared.Mapping.{Mapping}
 use Rattle.rules_table.specs.declared.Table.{Table}
@@ -24,24 +23,18 @@ use Rattle.rules_table.specs.Charge.{backs, mappingPages, charge}
 use Rattle.rules_table.specs.Good.{good}
 use Rattle.table.specs.Sound.{good-sound}
 use Rattle.table.specs.Fresh.{fresh-good}
-use Rattle.rules_calls.specs.declared.Change.{Change}
-use Rattle.rules_calls.specs.declared.Change.the-variants.{Nothing, Put, Drop, Map, Clear}
 use Rattle.rules_calls.specs.declared.Edit.{Edit}
-use Rattle.rules_calls.specs.Edits.{putObject, dropSpace, putMapping, clearInside, changed, applied}
-use Rattle.rules_calls.specs.Answers.{refusedBy, outcome, outcomeId}
-use Rattle.rules_calls.specs.Allow.{allowAnswer}
-use Rattle.rules_calls.specs.Objects.{allocCall, allocAnswer, allocBytes, destroyAnswer}
+use Rattle.rules_calls.specs.declared.Answer.{Answer}
+use Rattle.rules_calls.specs.Edits.{applied}
+use Rattle.rules_calls.specs.Answers.{outcome, outcomeId}
 use Rattle.laws_good.specs.SpaceGood.{alloc-good, destroy-good, allow-good}
-use Rattle.rules_calls.specs.Unmap.{unmapCall, unmapAnswer, unmapBytes}
-use Rattle.rules_calls.specs.Copy.{copyCall, copyAnswer, copyBytes}
-use Rattle.rules_calls.specs.Map.{mapCall, mapAnswer, mapBytes}
 use Rattle.laws_good.specs.MappingGood.{map-good, copy-good, unmap-good}
-use Rattle.rules_calls.specs.Attach.{attachCall, detachCall}
-use Rattle.rules_calls.specs.Bind.{bindCall}
+use Rattle.rules_calls.specs.Named.{allowAnswer, allocCall, allocAnswer, allocBytes, destroyAnswer, unmapCall, unmapAnswer, unmapBytes, copyCall, copyAnswer, copyBytes, mapCall, mapAnswer, mapBytes, attachCall, detachCall, bindCall}
 use Rattle.laws_good.specs.HostGood.{bind-good, attach-good, detach-good}
-use Rattle.rules_calls.specs.Call.{commandDone, rowDone, callDone}
-use Rattle.laws_refusal.specs.Calls.{alloc-refused, destroy-refused}
-use Rattle.laws_refusal.specs.Mappings.{map-refused, copy-refused, unmap-refused}
+use Rattle.rules_calls.specs.Call.{Done, commandDone, rowDone, callDone, callEdit}
+use Rattle.opening.specs.Opened.{row-number}
+use Rattle.edits.specs.Replies.{ranges-stays, unlisted-stays, call-edit}
+use Rattle.laws_refusal.specs.Calls.{alloc-refused, destroy-refused, map-refused, copy-refused, unmap-refused}
 use Rattle.rules_history.specs.Calls.{Call, replyOf, tableAfter, trace, after}
 use Rattle.rules_history.specs.Ledger.{Entry, Ledger, empty, tick, accepts, callFed, feed, ledgerOf, rowFed, commandFed}
 use Rattle.laws_history.specs.Rel.{view, weigh, pagesBy, had, Rel, rel-tick}
@@ -89,28 +82,36 @@ module _ (l : Ledger) (t : Table) (g : good t ≡ true) (q : Rel l t) (bytes are
   destroy-step true e = destroy-fed l t (good-sound t g) q bytes (not-below _ e)
   destroy-step false e = let k = below _ e in same-tick l t (destroyAnswer t bytes .table) q (destroy-refused t bytes (k .0) (k .1))
 
-  command-step : (c : Command) (b : Bool) → accepts (commandDone c t bytes area .answer .result) ≡ b → Rel (fedBy b c bytes (commandDone c t bytes area .bytes) l) (commandDone c t bytes area .answer .table)
+  -- what a call leaves, after the ledger was fed it by its row
+  abbrev Stepped : Bool → Row → Done → Type 0
+  Stepped b r d = accepts (d .answer .result) ≡ b → Rel (rowFedBy b r bytes (d .bytes) l) (d .answer .table)
+
+  -- each command at its own number
+  abbrev at : Command → ℕ → Done
+  at c request = commandDone c t (callEdit t request bytes area) bytes area
+
+  command-step : (c : Command) (b : Bool) → accepts (at c (number c) .answer .result) ≡ b → Rel (fedBy b c bytes (at c (number c) .bytes) l) (at c (number c) .answer .table)
+  unfolding destroyAnswer allocAnswer allocBytes allowAnswer copyAnswer copyBytes mapAnswer mapBytes unmapAnswer unmapBytes
   command-step Named.Destroy b e = destroy-step b e
   command-step Named.IoasAlloc b e = alloc-step b e
   command-step Named.AllowIovas true e = calm-tick l t _ q (allow-calm t bytes area)
   command-step Named.AllowIovas false e = calm-tick l t _ q (allow-calm t bytes area)
   command-step Named.Copy b e = copy-step b e
-  command-step Named.IovaRanges true e = calm-tick l t t q (calm-same t)
-  command-step Named.IovaRanges false e = calm-tick l t t q (calm-same t)
+  command-step Named.IovaRanges true e = same-tick l t _ q (ranges-stays t bytes area)
+  command-step Named.IovaRanges false e = same-tick l t _ q (ranges-stays t bytes area)
   command-step Named.Map b e = map-step b e
   command-step Named.Unmap b e = unmap-step b e
 
-  row-step : (r : Row) (request : ℕ) (b : Bool) → accepts (rowDone r t request bytes area .answer .result) ≡ b → Rel (rowFedBy b r bytes (rowDone r t request bytes area .bytes) l) (rowDone r t request bytes area .answer .table)
-  unfolding refusedBy
-  row-step Unlisted request true e = calm-tick l t t q (calm-same t)
-  row-step Unlisted request false e = calm-tick l t t q (calm-same t)
-  row-step (Listed c size) request true e = command-step c true e
-  row-step (Listed c size) request false e = command-step c false e
+  row-step : (r : Row) (request : ℕ) → lookup request ≡ r → (b : Bool) → Stepped b r (rowDone r t (callEdit t request bytes area) bytes area)
+  row-step Unlisted request f true e = same-tick l t _ q (unlisted-stays t request bytes area f)
+  row-step Unlisted request f false e = same-tick l t _ q (unlisted-stays t request bytes area f)
+  row-step (Listed c size) request f true e = subst (λ (n : ℕ). Stepped true (Listed c size) (at c n)) (row-number request c size f .0) (command-step c true) e
+  row-step (Listed c size) request f false e = subst (λ (n : ℕ). Stepped false (Listed c size) (at c n)) (row-number request c size f .0) (command-step c false) e
 
   call-step : (request : ℕ) (b : Bool) → accepts (callDone t request bytes area .answer .result) ≡ b → Rel (callFed b (Call.Command request bytes area) (callDone t request bytes area .bytes) l) (callDone t request bytes area .answer .table)
   unfolding callDone
-  call-step request true e = row-step (lookup request) request true e
-  call-step request false e = row-step (lookup request) request false e
+  call-step request true e = row-step (lookup request) request refl true e
+  call-step request false e = row-step (lookup request) request refl false e
 
 bind-ticks : (bitmap : ℕ) (r : Reserved) (l : Ledger) (b : Bool) → callFed b (Call.Bind bitmap r) [] l ≡ tick l
 bind-ticks bitmap r l true = refl
@@ -142,23 +143,26 @@ step-rel (Call.Detach d) l t g q = host-step l t (tableAfter (Call.Detach d) t) 
 step-rel (Call.Reach d a n write) l t g q = host-step l t t (Call.Reach d a n write) (accepts (replyOf (Call.Reach d a n write) t .result)) q (calm-same t) (λ b. reach-ticks d a n write l b)
 
 -- no call makes a bad table out of a good one
-command-good : (c : Command) (t : Table) (bytes area : List ℕ) → good t ≡ true → good (commandDone c t bytes area .answer .table) ≡ true
-command-good Named.Destroy t bytes area g = destroy-good t g bytes
-command-good Named.IoasAlloc t bytes area g = alloc-good t g bytes
-command-good Named.AllowIovas t bytes area g = allow-good t g bytes area
-command-good Named.Copy t bytes area g = copy-good t g bytes
-command-good Named.IovaRanges t bytes area g = g
-command-good Named.Map t bytes area g = map-good t g bytes
-command-good Named.Unmap t bytes area g = unmap-good t g bytes
+module _ (t : Table) (bytes area : List ℕ) (g : good t ≡ true) where
+  abbrev left : ℕ → Table
+  left request = outcome t (callEdit t request bytes area) .table
 
-row-good : (r : Row) (t : Table) (request : ℕ) (bytes area : List ℕ) → good t ≡ true → good (rowDone r t request bytes area .answer .table) ≡ true
-unfolding refusedBy
-row-good Unlisted t request bytes area g = g
-row-good (Listed c size) t request bytes area g = command-good c t bytes area g
+  command-good : (c : Command) → good (left (number c)) ≡ true
+  unfolding destroyAnswer allocAnswer allocCall allowAnswer copyAnswer copyCall mapAnswer mapCall unmapAnswer unmapCall
+  command-good Named.Destroy = destroy-good t g bytes
+  command-good Named.IoasAlloc = alloc-good t g bytes
+  command-good Named.AllowIovas = allow-good t g bytes area
+  command-good Named.Copy = copy-good t g bytes
+  command-good Named.IovaRanges = rw (ranges-stays t bytes area) g
+  command-good Named.Map = map-good t g bytes
+  command-good Named.Unmap = unmap-good t g bytes
+
+  row-good : (r : Row) (request : ℕ) → lookup request ≡ r → good (left request) ≡ true
+  row-good Unlisted request f = rw (unlisted-stays t request bytes area f) g
+  row-good (Listed c size) request f = subst (λ (n : ℕ). good (left n) ≡ true) (row-number request c size f .0) (command-good c)
 
 pub step-good : (c : Call) (t : Table) → good t ≡ true → good (tableAfter c t) ≡ true
-unfolding callDone
-step-good (Call.Command request bytes area) t g = row-good (lookup request) t request bytes area g
+step-good (Call.Command request bytes area) t g = subst (λ (a : Answer). good (a .table) ≡ true) (sym (call-edit t request bytes area)) (row-good t bytes area g (lookup request) request refl)
 step-good (Call.Bind bitmap reserved) t g = bind-good t g bitmap reserved
 step-good (Call.Attach d s) t g = attach-good t g d s
 step-good (Call.Detach d) t g = detach-good t g d
@@ -219,17 +223,9 @@ demand-3-told limit h cs = let g = fresh-good limit h in told _ _ (good-sound _ 
 
 -- ---- the limit stays what it was
 
-edit-limit : (t : Table) (o : Object) (c : Change) → changed t o c .limit ≡ t .limit
-unfolding putObject dropSpace putMapping clearInside
-edit-limit t o Nothing = refl
-edit-limit t o (Put i) = refl
-edit-limit t o (Drop i) = by-test (leb 32 i) (λ e. rw e) (λ e. rw e)
-edit-limit t o (Map i m) = refl
-edit-limit t o (Clear s r) = refl
-
 applied-limit : (t : Table) (e : Edit) → applied t e .limit ≡ t .limit
 unfolding applied
-applied-limit t e = edit-limit t (e .object) (e .change)
+applied-limit t e = refl
 
 bind-limit : (t : Table) (bitmap : ℕ) (l : Reserved) → bindCall t bitmap l .table .limit ≡ t .limit
 unfolding bindCall outcomeId
@@ -243,24 +239,9 @@ detach-limit : (t : Table) (d : ℕ) → detachCall t d .table .limit ≡ t .lim
 unfolding detachCall outcome
 detach-limit t d = applied-limit t _
 
-command-limit : (c : Command) (t : Table) (bytes area : List ℕ) → commandDone c t bytes area .answer .table .limit ≡ t .limit
-unfolding destroyAnswer allocAnswer allowAnswer mapAnswer copyAnswer unmapAnswer outcome
-command-limit Named.Destroy t bytes area = applied-limit t _
-command-limit Named.IoasAlloc t bytes area = applied-limit t _
-command-limit Named.AllowIovas t bytes area = applied-limit t _
-command-limit Named.Copy t bytes area = applied-limit t _
-command-limit Named.IovaRanges t bytes area = refl
-command-limit Named.Map t bytes area = applied-limit t _
-command-limit Named.Unmap t bytes area = applied-limit t _
-
-row-limit : (r : Row) (t : Table) (request : ℕ) (bytes area : List ℕ) → rowDone r t request bytes area .answer .table .limit ≡ t .limit
-unfolding refusedBy
-row-limit Unlisted t request bytes area = refl
-row-limit (Listed c size) t request bytes area = command-limit c t bytes area
-
 step-limit : (c : Call) (t : Table) → tableAfter c t .limit ≡ t .limit
-unfolding callDone
-step-limit (Call.Command request bytes area) t = row-limit (lookup request) t request bytes area
+unfolding outcome
+step-limit (Call.Command request bytes area) t = ap (λ (a : Answer). a .table .limit) (call-edit t request bytes area) ∙ applied-limit t (callEdit t request bytes area)
 step-limit (Call.Bind bitmap reserved) t = bind-limit t bitmap reserved
 step-limit (Call.Attach d s) t = attach-limit t d s
 step-limit (Call.Detach d) t = detach-limit t d

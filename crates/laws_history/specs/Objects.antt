@@ -32,11 +32,13 @@ use Rattle.table.specs.Cleared.{release-false}
 use Rattle.table.specs.Replaced.{spaceAt-set-same, spaceAt-set-other}
 use Rattle.rules_calls.specs.declared.Change.the-variants.{Put}
 use Rattle.rules_calls.specs.declared.Edit.{Edit}
-use Rattle.rules_calls.specs.Edits.{accept, settle, placed, putObject, dropSpace, applied}
+use Rattle.rules_calls.specs.Edits.{accept, settle, added, applied}
+use Rattle.edits.specs.Parts.{putObject}
 use Rattle.rules_calls.specs.Answers.{outcome, replied}
-use Rattle.edits.specs.Kept.{free-place}
-use Rattle.rules_calls.specs.Objects.{allocChecks, allocEdit, destroyChecks, removal, destroyEdit, allocCall, allocAnswer, allocBytes, destroyAnswer}
-use Rattle.laws_good.specs.SpaceKept.{is-object, object-place}
+use Rattle.edits.specs.Kept.{free-slot}
+use Rattle.rules_calls.specs.Objects.{allocChecks, allocEdit, destroyChecks, removal, destroyEdit}
+use Rattle.rules_calls.specs.Named.{allocCall, allocAnswer, allocBytes, destroyAnswer}
+use Rattle.laws_good.specs.SpaceKept.{is-object, object-slot}
 use Rattle.rules_calls.specs.Gate.{gateErrno}
 use Rattle.tablecheck.proofs.Gating.{gate-size}
 use Rattle.laws_mapping.specs.Passed.{settled-zero}
@@ -70,10 +72,10 @@ none-bytes s ms h = sumOf-cong (λ m. onlyIf (ofSpace s m) (m .length)) (λ m. 0
 
 -- which record it took
 pub record Allotted (t : Table) (bytes : List ℕ) : Type 0 where
-  pub place : ℕ
-  pub free : freeRecord (t .objects) ≡ some place
-  pub after : allocAnswer t bytes .table ≡ putObject t place newSpace
-  pub told : allocCall t bytes .value ≡ suc place
+  pub slot : ℕ
+  pub free : freeRecord (t .objects) ≡ some slot
+  pub after : allocAnswer t bytes .table ≡ putObject t slot newSpace
+  pub told : allocCall t bytes .value ≡ suc slot
   pub errno : allocCall t bytes .errno ≡ 0
   pub gate : gateErrno t 0x3B81 bytes ≡ 0
 
@@ -81,16 +83,16 @@ alloc-done : (t : Table) (bytes : List ℕ) → allocAnswer t bytes .result ≡ 
 unfolding allocAnswer allocCall allocEdit outcome applied
 alloc-done t bytes ok =
     let a = accepted t 0x3B81 bytes (allocEdit (t .objects) (field 4 bytes 4)) ok in
-    let c = settled-zero (first (allocChecks (t .objects) (field 4 bytes 4)) 0) (placed (freeRecord (t .objects)) newSpace) (a .errno) in
+    let c = settled-zero (first (allocChecks (t .objects) (field 4 bytes 4)) 0) (added (freeRecord (t .objects)) newSpace) (a .errno) in
     go a c (freeRecord (t .objects)) refl
   where
     go : Accepted t 0x3B81 bytes (allocEdit (t .objects) (field 4 bytes 4)) → first (allocChecks (t .objects) (field 4 bytes 4)) 0 ≡ 0 → (o : Option ℕ) → freeRecord (t .objects) ≡ o → Allotted t bytes
-    go a c none f = absurd (omega (arith, sym (ap (λ (n : ℕ). settle n (placed (freeRecord (t .objects)) newSpace) .errno) c ∙ ap (λ (o : Option ℕ). placed o newSpace .errno) f) ∙ a .errno))
+    go a c none f = absurd (omega (arith, sym (ap (λ (n : ℕ). settle n (added (freeRecord (t .objects)) newSpace) .errno) c ∙ ap (λ (o : Option ℕ). added o newSpace .errno) f) ∙ a .errno))
     go a c (some i) f =
         let is : settle (gateErrno t 0x3B81 bytes) (allocEdit (t .objects) (field 4 bytes 4)) ≡ accept (i + 1) (Put i) newSpace
-        = a .same ∙ ap (λ (n : ℕ). settle n (placed (freeRecord (t .objects)) newSpace)) c ∙ ap (λ (o : Option ℕ). placed o newSpace) f in
+        = a .same ∙ ap (λ (n : ℕ). settle n (added (freeRecord (t .objects)) newSpace)) c ∙ ap (λ (o : Option ℕ). added o newSpace) f in
         record {
-          place = i;
+          slot = i;
           free = f;
           after = ap (applied t) is;
           told = ap (λ (e : Edit). e .value) is ∙ add-one i;
@@ -99,18 +101,18 @@ alloc-done t bytes ok =
         }
 
 -- the id that is read from the bytes
-alloc-id : (t : Table) (bytes : List ℕ) (d : Allotted t bytes) → d .place < 256 → field 4 (allocBytes t bytes) 8 ≡ suc (d .place)
+alloc-id : (t : Table) (bytes : List ℕ) (d : Allotted t bytes) → d .slot < 256 → field 4 (allocBytes t bytes) 8 ≡ suc (d .slot)
 unfolding allocBytes replied
 alloc-id t bytes d h =
     rw (d .errno, d .told)
-    (field-put 4 bytes 8 (suc (d .place)) (omega (arith, gate-size t IoasAlloc bytes (sym (d .gate)))) (let z : 256 ^ 4 ≡ 2 ^ 32 = refl in omega (arith, z)))
+    (field-put 4 bytes 8 (suc (d .slot)) (omega (arith, gate-size t IoasAlloc bytes (sym (d .gate)))) (let z : 256 ^ 4 ≡ 2 ^ 32 = refl in omega (arith, z)))
 
 module _ (l : Ledger) (t : Table) (g : Sound t) (q : Rel l t) where
   -- a space in a free record: it has no bytes yet
   space-made : (i : ℕ) (written : List ℕ) → freeRecord (t .objects) ≡ some i → field 4 written 8 ≡ suc i → Rel (withSpace written l) (putObject t i newSpace)
-  unfolding putObject
+  unfolding applied
   space-made i written f w =
-      let p = free-place (t .objects) i f in
+      let p = free-slot (t .objects) i f in
       rw w (record {
         who = q .who;
         weighs = q .weighs;
@@ -132,8 +134,8 @@ module _ (l : Ledger) (t : Table) (g : Sound t) (q : Rel l t) where
   pub alloc-fed : (bytes : List ℕ) → allocAnswer t bytes .result ≡ pos 0 → Rel (withSpace (allocBytes t bytes) l) (allocAnswer t bytes .table)
   alloc-fed bytes ok =
       let d = alloc-done t bytes ok in
-      let p = free-place (t .objects) (d .place) (d .free) in
-      rw (d .after) (space-made (d .place) (allocBytes t bytes) (d .free) (alloc-id t bytes d (omega (arith, p .0, g .places))))
+      let p = free-slot (t .objects) (d .slot) (d .free) in
+      rw (d .after) (space-made (d .slot) (allocBytes t bytes) (d .free) (alloc-id t bytes d (omega (arith, p .0, g .places))))
 
 -- ---- DESTROY
 
@@ -169,7 +171,7 @@ module _ (l : Ledger) (t : Table) (g : Sound t) (q : Rel l t) where
 
   -- by the kind of the object: a space with its mappings, a device that no mapping names
   gone-by : (k : Kind) (i : ℕ) (bytes : List ℕ) → isFree k ≡ false → isSpace k ≡ spaceAt (t .objects) (suc i) → i < ListN.length (t .objects) → field 4 bytes 4 ≡ suc i → Rel (withoutSpace bytes l) (applied t (accept 0 (removal k i) freeObject))
-  unfolding applied putObject dropSpace
+  unfolding applied
   gone-by Free i bytes e s h w = contrary true refl e
   gone-by Space i bytes e s h w =
       rw (lt-leb 32 i (omega (arith, h, g .places)))
@@ -185,7 +187,7 @@ module _ (l : Ledger) (t : Table) (g : Sound t) (q : Rel l t) where
       let id = field 4 bytes 4 in
       let a = accepted t 0x3B80 bytes (destroyEdit os id) ok in
       let c = settled-zero (first (destroyChecks os id) 0) (accept 0 (removal (objectAt os id .kind) (id - 1)) freeObject) (a .errno) in
-      let p = object-place os id (is-object os id c) in
+      let p = object-slot os id (is-object os id c) in
       let z : suc (p .0) - 1 ≡ p .0 = omega arith in
       let at : id - 1 ≡ p .0 = ap (λ (x : ℕ). x - 1) (p .1) ∙ z in
       let is : settle (gateErrno t 0x3B80 bytes) (destroyEdit os id) ≡ accept 0 (removal (objectAt os id .kind) (p .0)) freeObject

@@ -10,7 +10,7 @@ use lib.ListN as ListN
 use lib.ListN.{getD, set}
 use borrow.Author.Tests.{eqb-true, eqb-false, eq-eqb, ne-eqb}
 use Rattle.lists.specs.Tests.{by-test, contrary, onlyIf, onlyIf-true, onlyIf-and, and-left, and-right, or-other}
-use Rattle.lists.specs.Search.{any, any-mono, any-place}
+use Rattle.lists.specs.Search.{any, any-mono, any-slot}
 use Rattle.lists.specs.Each.{Each, Each-of, Each-imp, Each-zip, Each-at, Each-set, Each-map, Each-any-false}
 use Rattle.lists.specs.Sums.{sumOf, sumOf-cong, sumOf-add, countOf, countOf-any, keep, sumOf-keep}
 use Rattle.lists.specs.Update.{upd, upd-same, upd-other, any-map, sumOf-set, sumOf-map}
@@ -20,12 +20,13 @@ use Rattle.rules_table.specs.Records.{zeroMapping, used, ofSpace, objectAt, spa
 use Rattle.rules_table.specs.Charge.{backs, mappingPages}
 use Rattle.table.specs.Cleared.{release-true, release-false}
 use Rattle.lists.specs.Ends.{any-stored}
-use Rattle.rules_calls.specs.Edits.{putMapping}
+use Rattle.rules_calls.specs.Edits.{applied}
+use Rattle.edits.specs.Parts.{putMapping}
 use Rattle.rules_history.specs.Ledger.{Entry, Made, Ledger, tick}
 
--- a mapping as the ledger has it, where `who` tells the founder of each backing number
+-- a mapping as the ledger has it, where `who` tells the root of each backing number
 abbrev pub view : (ℕ → ℕ) → Mapping → Entry
-view who m = record { space = m .space; address = m .address; length = m .length; founder = who (m .backing); memory = m .memory; rights = m .rights }
+view who m = record { space = m .space; address = m .address; length = m .length; root = who (m .backing); memory = m .memory; rights = m .rights }
 
 -- the weight of the mappings
 unfoldable pub weigh : (Entry → ℕ) → (ℕ → ℕ) → List Mapping → ℕ
@@ -47,7 +48,7 @@ pub record Rel (l : Ledger) (t : Table) : Type 0 where
   pub weighs : (w : Entry → ℕ) → sumOf w (l .entries) ≡ weigh w who (t .mappings)
   -- two backings that mappings have are of two founders
   pub apart : (b c : ℕ) → had b (t .mappings) ≡ true → had c (t .mappings) ≡ true → who b ≡ who c → b ≡ c
-  -- a founder is an accepted MAP, with the pages of the mapping
+  -- a root is an accepted MAP, with the pages of the mapping
   pub known : Each (λ m. used m ≡ true → pagesBy (who (m .backing)) (l .made) ≡ mappingPages m) (t .mappings)
   pub past : Each (λ m. m .number < l .time) (l .made)
   pub lately : Each (λ m. used m ≡ true → who (m .backing) < l .time) (t .mappings)
@@ -97,7 +98,7 @@ put-sum w ms i m h free z = let e : w (getD ms i zeroMapping) ≡ 0 = ap w free 
 pub had-of : (P : ℕ → Type 0) (ms : List Mapping) (b : ℕ) → Each (λ m. used m ≡ true → P (m .backing)) ms → had b ms ≡ true → P b
 unfolding had backs
 had-of P ms b h e =
-    let w = any-place (λ m. used m && eqb (m .backing) b) ms zeroMapping e in
+    let w = any-slot (λ m. used m && eqb (m .backing) b) ms zeroMapping e in
     let m = getD ms (w .0) zeroMapping in
     subst P (eqb-true (m .backing) b (and-right (used m) (eqb (m .backing) b) (w .2)))
     (Each-at (λ m. used m ≡ true → P (m .backing)) ms zeroMapping (w .0) (w .1) h (and-left (used m) (eqb (m .backing) b) (w .2)))
@@ -124,7 +125,7 @@ module _ (ms : List Mapping) (i : ℕ) (m : Mapping) (h : i < ListN.length ms) (
 
 -- a mapping with these fields, as the ledger has it
 abbrev entryFor : Mapping → ℕ → Entry
-entryFor m n = record { space = m .space; address = m .address; length = m .length; founder = n; memory = m .memory; rights = m .rights }
+entryFor m n = record { space = m .space; address = m .address; length = m .length; root = n; memory = m .memory; rights = m .rights }
 
 -- no space has the id 0
 space-zero : (t : Table) → spaceAt (t .objects) 0 ≡ false
@@ -214,7 +215,7 @@ module _ (l : Ledger) (t : Table) (q : Rel l t) (i : ℕ) (m : Mapping) (h : i <
     accepted = upd (l .accepted) (m .space) (l .accepted (m .space) + m .length);
     removed = l .removed;
   }) (putMapping t i m)
-  unfolding putMapping
+  unfolding applied
   rel-new = record {
     who = who′;
     weighs = new-weighs;
@@ -247,7 +248,7 @@ module _ (l : Ledger) (t : Table) (q : Rel l t) (i : ℕ) (m : Mapping) (h : i <
     accepted = upd (l .accepted) (m .space) (l .accepted (m .space) + m .length);
     removed = l .removed;
   }) (putMapping t i m)
-  unfolding putMapping
+  unfolding applied
   rel-more = record {
     who = q .who;
     weighs = more-weighs;

@@ -24,15 +24,15 @@ use Rattle.rules_history.specs.Ledger.{Entry, Ledger, entryIs, orNone, sourceEn
 use Rattle.laws_history.specs.Rel.{view, Rel, counted}
 
 sameEntry : Entry → Entry → Bool
-sameEntry e x = eqb (e .space) (x .space) && (eqb (e .address) (x .address) && (eqb (e .length) (x .length) && (eqb (e .founder) (x .founder) && (eqb (e .memory) (x .memory) && eqb (e .rights) (x .rights)))))
+sameEntry e x = eqb (e .space) (x .space) && (eqb (e .address) (x .address) && (eqb (e .length) (x .length) && (eqb (e .root) (x .root) && (eqb (e .memory) (x .memory) && eqb (e .rights) (x .rights)))))
 
 same-self : (e : Entry) → sameEntry e e ≡ true
 unfolding sameEntry
 same-self e =
-    rw (eq-eqb (e .space) (e .space) refl, eq-eqb (e .address) (e .address) refl, eq-eqb (e .length) (e .length) refl, eq-eqb (e .founder) (e .founder) refl, eq-eqb (e .memory) (e .memory) refl, eq-eqb (e .rights) (e .rights) refl)
+    rw (eq-eqb (e .space) (e .space) refl, eq-eqb (e .address) (e .address) refl, eq-eqb (e .length) (e .length) refl, eq-eqb (e .root) (e .root) refl, eq-eqb (e .memory) (e .memory) refl, eq-eqb (e .rights) (e .rights) refl)
 
 abbrev fields : ℕ → ℕ → ℕ → ℕ → ℕ → ℕ → Entry
-fields s a n f m r = record { space = s; address = a; length = n; founder = f; memory = m; rights = r }
+fields s a n f m r = record { space = s; address = a; length = n; root = f; memory = m; rights = r }
 
 same-entry : (e x : Entry) → sameEntry e x ≡ true → e ≡ x
 unfolding sameEntry
@@ -40,10 +40,10 @@ same-entry e x h =
     let p1 : e .space ≡ x .space = eqb-true (e .space) (x .space) (search (and-left, and-right) depth 8) in
     let p2 : e .address ≡ x .address = eqb-true (e .address) (x .address) (search (and-left, and-right) depth 8) in
     let p3 : e .length ≡ x .length = eqb-true (e .length) (x .length) (search (and-left, and-right) depth 8) in
-    let p4 : e .founder ≡ x .founder = eqb-true (e .founder) (x .founder) (search (and-left, and-right) depth 8) in
+    let p4 : e .root ≡ x .root = eqb-true (e .root) (x .root) (search (and-left, and-right) depth 8) in
     let p5 : e .memory ≡ x .memory = eqb-true (e .memory) (x .memory) (search (and-left, and-right) depth 8) in
     let p6 : e .rights ≡ x .rights = eqb-true (e .rights) (x .rights) (search (and-left, and-right) depth 8) in
-    let z : fields (e .space) (e .address) (e .length) (e .founder) (e .memory) (e .rights) ≡ x = rw (p1, p2, p3, p4, p5, p6) refl in z
+    let z : fields (e .space) (e .address) (e .length) (e .root) (e .memory) (e .rights) ≡ x = rw (p1, p2, p3, p4, p5, p6) refl in z
 
 -- a mapping holds its first address
 starts-here : (x : Mapping) (a : ℕ) → x .address ≡ a → x .address ≤ U64MAX → holds (span (x .address) (x .length)) a ≡ true

@@ -29,11 +29,13 @@ use Rattle.table.specs.Cleared.{within-all}
 use Rattle.table.specs.Charged.{backs-of}
 use Rattle.rules_calls.specs.declared.Edit.{Edit}
 use Rattle.rules_calls.specs.declared.Change.the-variants.{Clear}
-use Rattle.rules_calls.specs.Edits.{accept, applied, putMapping, clearInside}
+use Rattle.rules_calls.specs.Edits.{accept, applied}
+use Rattle.edits.specs.Parts.{putMapping, clearInside}
 use Rattle.rules_calls.specs.Answers.{outcome}
-use Rattle.rules_calls.specs.Copy.{isSource, sourceOf, copyOf, copyDecided, copyCall, copyAnswer, copyBytes}
-use Rattle.rules_calls.specs.Unmap.{removedBytes, asksAll, rangeAsked, unmapDecided, unmapCall, unmapAnswer, unmapBytes}
-use Rattle.rules_calls.specs.Map.{foundOf, mapDecided, mapCall, mapAnswer, mapBytes}
+use Rattle.rules_calls.specs.Copy.{isSource, sourceOf, copyOf}
+use Rattle.rules_calls.specs.Unmap.{removedBytes, asksAll, rangeAsked}
+use Rattle.rules_calls.specs.Map.{foundOf}
+use Rattle.rules_calls.specs.Named.{copyDecided, copyCall, copyAnswer, copyBytes, unmapDecided, unmapCall, unmapAnswer, unmapBytes, mapDecided, mapCall, mapAnswer, mapBytes}
 use Rattle.laws_mapping.specs.Made.{free-record, free-number, found-used, copy-used, find-each, source-of}
 use Rattle.laws_mapping.specs.Accepted.{Accepted}
 use Rattle.laws_mapping.specs.Lowest.{map-accepted, map-written, copy-accepted, copy-written}
@@ -65,42 +67,40 @@ none-has ms b e = any-none (λ m. used m && backs b m) (backs b) ms (λ m v. and
 -- the table after an accepted call is that of the edit it decided
 module _ (t : Table) (g : Sound t) (bytes : List ℕ) where
   map-decided : mapDecided t bytes .errno ≡ 0 → MapDone t (field 4 bytes 4) (field 4 bytes 8) (field 8 bytes 16) (field 8 bytes 24) (field 8 bytes 32) (mapDecided t bytes)
-  unfolding mapDecided
   map-decided e = map-done t (field 4 bytes 4) (field 4 bytes 8) (field 4 bytes 12) (field 8 bytes 16) (field 8 bytes 24) (field 8 bytes 32) g e
 
   map-after : Accepted t 0x3B85 bytes (mapDecided t bytes) → (d : MapDone t (field 4 bytes 4) (field 4 bytes 8) (field 8 bytes 16) (field 8 bytes 24) (field 8 bytes 32) (mapDecided t bytes))
-      → mapAnswer t bytes .table ≡ putMapping t (d .place) (foundOf (d .number) (field 4 bytes 4) (field 4 bytes 8) (field 8 bytes 16) (field 8 bytes 24) (d .address))
+      → mapAnswer t bytes .table ≡ putMapping t (d .slot) (foundOf (d .number) (field 4 bytes 4) (field 4 bytes 8) (field 8 bytes 16) (field 8 bytes 24) (d .address))
   unfolding mapAnswer mapCall outcome applied
   map-after a d = ap (applied t) (a .same ∙ d .is)
 
 module _ (l : Ledger) (t : Table) (g : Sound t) (q : Rel l t) (bytes : List ℕ) where
   -- the ledger's entry is the mapping
-  map-entered : (number place address : ℕ) (written : List ℕ) → field 8 written 32 ≡ address → place < ListN.length (t .mappings) → getD (t .mappings) place zeroMapping ≡ zeroMapping
+  map-entered : (number slot address : ℕ) (written : List ℕ) → field 8 written 32 ≡ address → slot < ListN.length (t .mappings) → getD (t .mappings) slot zeroMapping ≡ zeroMapping
       → used (foundOf number (field 4 bytes 4) (field 4 bytes 8) (field 8 bytes 16) (field 8 bytes 24) address) ≡ true → had number (t .mappings) ≡ false
-      → Rel (withMap bytes written l) (putMapping t place (foundOf number (field 4 bytes 4) (field 4 bytes 8) (field 8 bytes 16) (field 8 bytes 24) address))
+      → Rel (withMap bytes written l) (putMapping t slot (foundOf number (field 4 bytes 4) (field 4 bytes 8) (field 8 bytes 16) (field 8 bytes 24) address))
   unfolding foundOf mappingPages
-  map-entered number place address written w h free u new =
-      rw w (rel-new l t q place (foundOf number (field 4 bytes 4) (field 4 bytes 8) (field 8 bytes 16) (field 8 bytes 24) address) h free u new)
+  map-entered number slot address written w h free u new =
+      rw w (rel-new l t q slot (foundOf number (field 4 bytes 4) (field 4 bytes 8) (field 8 bytes 16) (field 8 bytes 24) address) h free u new)
 
   pub map-fed : mapAnswer t bytes .result ≡ pos 0 → Rel (withMap bytes (mapBytes t bytes) l) (mapAnswer t bytes .table)
   map-fed ok =
       let a = map-accepted t bytes ok in
       let d = map-decided t g bytes (a .errno) in
-      let r = free-record (t .objects) (t .mappings) (d .place) (g .records) (d .free) in
+      let r = free-record (t .objects) (t .mappings) (d .slot) (g .records) (d .free) in
       let b = free-number (t .mappings) (d .number) (d .unused) in
       let u = found-used (t .objects) (t .mappings) (d .number) (field 4 bytes 4) (field 4 bytes 8) (field 8 bytes 16) (field 8 bytes 24) (d .address) (d .passed .space) in
       rw (map-after t g bytes a d)
-      (map-entered (d .number) (d .place) (d .address) (mapBytes t bytes) (map-written t bytes ok ∙ ap (λ (e : Edit). e .value) (d .is)) (r .0) (r .1) u (none-has (t .mappings) (d .number) (b .2)))
+      (map-entered (d .number) (d .slot) (d .address) (mapBytes t bytes) (map-written t bytes ok ∙ ap (λ (e : Edit). e .value) (d .is)) (r .0) (r .1) u (none-has (t .mappings) (d .number) (b .2)))
 
 -- ---- COPY
 
 module _ (t : Table) (bytes : List ℕ) where
   copy-decided : copyDecided t bytes .errno ≡ 0 → CopyDone t (field 4 bytes 4) (field 4 bytes 8) (field 4 bytes 12) (field 8 bytes 16) (field 8 bytes 24) (field 8 bytes 32) (copyDecided t bytes)
-  unfolding copyDecided
   copy-decided e = copy-done t (field 4 bytes 4) (field 4 bytes 8) (field 4 bytes 12) (field 8 bytes 16) (field 8 bytes 24) (field 8 bytes 32) e
 
   copy-after : Accepted t 0x3B83 bytes (copyDecided t bytes) → (d : CopyDone t (field 4 bytes 4) (field 4 bytes 8) (field 4 bytes 12) (field 8 bytes 16) (field 8 bytes 24) (field 8 bytes 32) (copyDecided t bytes))
-      → copyAnswer t bytes .table ≡ putMapping t (d .place) (copyOf (d .from) (field 4 bytes 4) (field 4 bytes 8) (field 8 bytes 16) (d .address))
+      → copyAnswer t bytes .table ≡ putMapping t (d .slot) (copyOf (d .from) (field 4 bytes 4) (field 4 bytes 8) (field 8 bytes 16) (d .address))
   unfolding copyAnswer copyCall outcome applied
   copy-after a d = ap (applied t) (a .same ∙ d .is)
 
@@ -112,15 +112,15 @@ source-had ms s y n m e u =
     (λ v. contrary (used m && backs (m .backing) m) (and-both (used m) (backs (m .backing) m) u (backs-of (m .backing) m refl)) (find-some-any (isSource s y n) (λ x. used x && backs (m .backing) x) ms m e v))
 
 module _ (l : Ledger) (t : Table) (g : Sound t) (q : Rel l t) (bytes : List ℕ) where
-  copy-entered : (m : Mapping) (place address : ℕ) (written : List ℕ) → field 8 written 24 ≡ address
+  copy-entered : (m : Mapping) (slot address : ℕ) (written : List ℕ) → field 8 written 24 ≡ address
       → sourceEntry (l .entries) (field 4 bytes 12) (field 8 bytes 32) (field 8 bytes 16) ≡ view (q .who) m
-      → place < ListN.length (t .mappings) → getD (t .mappings) place zeroMapping ≡ zeroMapping
+      → slot < ListN.length (t .mappings) → getD (t .mappings) slot zeroMapping ≡ zeroMapping
       → used (copyOf m (field 4 bytes 4) (field 4 bytes 8) (field 8 bytes 16) address) ≡ true → had (m .backing) (t .mappings) ≡ true → pagesBy (q .who (m .backing)) (l .made) ≡ mappingPages m → m .length ≡ field 8 bytes 16
-      → Rel (withCopy bytes written l) (putMapping t place (copyOf m (field 4 bytes 4) (field 4 bytes 8) (field 8 bytes 16) address))
+      → Rel (withCopy bytes written l) (putMapping t slot (copyOf m (field 4 bytes 4) (field 4 bytes 8) (field 8 bytes 16) address))
   unfolding copyOf mappingPages
-  copy-entered m place address written w s h free u old pages long =
+  copy-entered m slot address written w s h free u old pages long =
       rw (w, s)
-      (rel-more l t q place (copyOf m (field 4 bytes 4) (field 4 bytes 8) (field 8 bytes 16) address) h free u old (pages ∙ ap (pagesTouched (m .memory)) long))
+      (rel-more l t q slot (copyOf m (field 4 bytes 4) (field 4 bytes 8) (field 8 bytes 16) address) h free u old (pages ∙ ap (pagesTouched (m .memory)) long))
 
   pub copy-fed : copyAnswer t bytes .result ≡ pos 0 → Rel (withCopy bytes (copyBytes t bytes) l) (copyAnswer t bytes .table)
   unfolding sourceOf
@@ -129,10 +129,10 @@ module _ (l : Ledger) (t : Table) (g : Sound t) (q : Rel l t) (bytes : List ℕ)
       let d = copy-decided t bytes (a .errno) in
       let m = d .from in
       let s = source-of (t .objects) (g .info) (t .mappings) (g .records) (g .agree) (field 4 bytes 12) (field 8 bytes 32) (field 8 bytes 16) (d .passed .source-space) m (d .sought) in
-      let r = free-record (t .objects) (t .mappings) (d .place) (g .records) (d .free) in
+      let r = free-record (t .objects) (t .mappings) (d .slot) (g .records) (d .free) in
       let u = copy-used (t .objects) (t .mappings) m (field 4 bytes 4) (field 4 bytes 8) (field 8 bytes 16) (d .address) (d .passed .space) in
       rw (copy-after t bytes a d)
-      (copy-entered m (d .place) (d .address) (copyBytes t bytes) (copy-written t bytes ok ∙ ap (λ (e : Edit). e .value) (d .is))
+      (copy-entered m (d .slot) (d .address) (copyBytes t bytes) (copy-written t bytes ok ∙ ap (λ (e : Edit). e .value) (d .is))
       (source-entry l t q g (field 4 bytes 12) (field 8 bytes 32) (field 8 bytes 16) m (d .sought) (s .is-used)) (r .0) (r .1) u
       (source-had (t .mappings) (field 4 bytes 12) (field 8 bytes 32) (field 8 bytes 16) m (d .sought) (s .is-used))
       (find-each (λ x. used x ≡ true → pagesBy (q .who (x .backing)) (l .made) ≡ mappingPages x) (isSource (field 4 bytes 12) (field 8 bytes 32) (field 8 bytes 16)) (t .mappings) m (q .known) (d .sought) (s .is-used)) (s .is-long))
@@ -172,7 +172,6 @@ two-spaces s z m ne e = ne-eqb (m .space) z (λ y. ne (sym y ∙ eqb-true (m .sp
 
 module _ (t : Table) (bytes : List ℕ) where
   unmap-is : unmapDecided t bytes .errno ≡ 0 → unmapDecided t bytes ≡ accept (removedBytes (field 4 bytes 4) (rangeAsked (field 8 bytes 8) (field 8 bytes 16)) (t .mappings)) (Clear (field 4 bytes 4) (rangeAsked (field 8 bytes 8) (field 8 bytes 16))) freeObject
-  unfolding unmapDecided
   unmap-is e = unmap-done t (field 4 bytes 4) (field 8 bytes 8) (field 8 bytes 16) e .1
 
   pub unmap-after : unmapAnswer t bytes .result ≡ pos 0 → unmapAnswer t bytes .table ≡ clearInside t (field 4 bytes 4) (rangeAsked (field 8 bytes 8) (field 8 bytes 16))
@@ -198,7 +197,7 @@ module _ (l : Ledger) (t : Table) (q : Rel l t) (p : Mapping → Bool) (s : ℕ)
 module _ (l : Ledger) (t : Table) (q : Rel l t) (bytes : List ℕ) where
   unmap-cleared : (written : List ℕ) → field 8 written 16 ≡ sumOf (λ (m : Mapping). m .length) (keep (within (field 4 bytes 4) (rangeAsked (field 8 bytes 8) (field 8 bytes 16))) (t .mappings))
       → Rel (withUnmap bytes written l) (clearInside t (field 4 bytes 4) (rangeAsked (field 8 bytes 8) (field 8 bytes 16)))
-  unfolding clearInside
+  unfolding applied
   unmap-cleared written w =
       let s = field 4 bytes 4 in
       let r = rangeAsked (field 8 bytes 8) (field 8 bytes 16) in

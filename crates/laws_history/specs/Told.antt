@@ -11,7 +11,7 @@ use lib.ListN as ListN
 use lib.ListN.{getD}
 use borrow.Author.Tests.{eqb-true, eq-eqb, ne-eqb, ltb-true, ltb-false}
 use Rattle.lists.specs.Tests.{by-test, contrary, same-test, onlyIf, onlyIf-false, and-left, and-right, and-both}
-use Rattle.lists.specs.Search.{any, any-cong, any-at, any-mono, any-place}
+use Rattle.lists.specs.Search.{any, any-cong, any-at, any-mono, any-slot}
 use Rattle.lists.specs.Each.{Each, Each-of, Each-imp, Each-zip, Each-at, Each-any-false}
 use Rattle.lists.specs.Sums.{sumOf, sumOf-cong, sumOf-zero, countOf, countOf-any}
 use Rattle.lists.specs.Below.{sumBelow, sumBelow-cong, sumBelow-zero, sumBelow-only, sumOf-sumBelow, countBelow}
@@ -97,7 +97,7 @@ module _ (l : Ledger) (t : Table) (g : Sound t) (q : Rel l t) where
 
   survives-is : (m : Made) → any (λ x. used x && eqb (q .who (x .backing)) (m .number)) (t .mappings) ≡ survives l m
   unfolding survives
-  survives-is m = told-any l t q (λ e. eqb (e .founder) (m .number))
+  survives-is m = told-any l t q (λ e. eqb (e .root) (m .number))
 
   -- the backing of a mapping is had
   had-at : (i : ℕ) → i < ListN.length (t .mappings) → used (getD (t .mappings) i zeroMapping) ≡ true → had (getD (t .mappings) i zeroMapping .backing) (t .mappings) ≡ true
@@ -115,7 +115,7 @@ module _ (l : Ledger) (t : Table) (g : Sound t) (q : Rel l t) where
     where
       yes : any (λ x. used x && eqb (q .who (x .backing)) (m .number)) (t .mappings) ≡ true → sumBelow (λ k. onlyIf (founded (m .number) (k + 1)) (m .pages)) 128 ≡ m .pages
       yes e =
-          let w = any-place (λ x. used x && eqb (q .who (x .backing)) (m .number)) (t .mappings) zeroMapping e in
+          let w = any-slot (λ x. used x && eqb (q .who (x .backing)) (m .number)) (t .mappings) zeroMapping e in
           let x = getD (t .mappings) (w .0) zeroMapping in
           let u = and-left (used x) (eqb (q .who (x .backing)) (m .number)) (w .2) in
           let f : q .who (x .backing) ≡ m .number = eqb-true (q .who (x .backing)) (m .number) (and-right (used x) (eqb (q .who (x .backing)) (m .number)) (w .2)) in
@@ -165,7 +165,7 @@ module _ (l : Ledger) (t : Table) (g : Sound t) (q : Rel l t) where
   unfolding had
   had-is k =
       same-test (any (backs (k + 1)) (t .mappings)) (any (λ m. used m && backs (k + 1) m) (t .mappings))
-      (λ e. let w = any-place (backs (k + 1)) (t .mappings) zeroMapping e in
+      (λ e. let w = any-slot (backs (k + 1)) (t .mappings) zeroMapping e in
       let x = getD (t .mappings) (w .0) zeroMapping in
       any-at (λ m. used m && backs (k + 1) m) (t .mappings) zeroMapping (w .0) (w .1)
       (and-both (used x) (backs (k + 1) x) (backs-used (t .objects) x k (Each-at (λ m. recordOk (t .objects) m ≡ true) (t .mappings) zeroMapping (w .0) (w .1) (g .records)) (ap (λ (b : ℕ). backs b x) (sym (add-one k)) ∙ w .2)) (w .2)))

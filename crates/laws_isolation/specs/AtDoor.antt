@@ -6,14 +6,12 @@ use mathlib.Core.List.{List, map}
 use lib.Dec.{eqb}
 use borrow.Author.Tests.{ne-eqb}
 use Rattle.lists.specs.Tests.{by-test, onlyIf}
-use Rattle.lists.specs.Search.{find}
 use Rattle.lists.specs.Each.{Each-of}
 use Rattle.lists.specs.Sums.{sumOf-cong, countOf}
 use Rattle.lists.specs.Update.{sumOf-map}
 use Rattle.ranges.specs.declared.Range.{Range}
 use Rattle.rangelists.specs.Listed.{reserved, allowed}
 use Rattle.wire.specs.Fields.{field}
-use Rattle.rules_calls.specs.Requests.{commands, lookup}
 use Rattle.rules_table.specs.declared.Object.{Object}
 use Rattle.rules_table.specs.declared.Mapping.{Mapping}
 use Rattle.rules_table.specs.declared.Table.{Table}
@@ -21,7 +19,9 @@ use Rattle.rules_table.specs.Records.{spaceAt, isSpace, attachedTo, used, ofSpa
 use Rattle.rules_table.specs.Charge.{charge}
 use Rattle.rules_table.specs.Good.{good}
 use Rattle.rules_table.specs.Untouched.{onlyOf, onlyAt, Untouched}
+use Rattle.rules_calls.specs.Answers.{outcome}
 use Rattle.rules_calls.specs.Call.{Done, callDone}
+use Rattle.rules_calls.specs.Named.{mapAnswer, mapBytes, unmapAnswer, unmapBytes, allowAnswer, rangesResult, rangesReply, rangesWritten}
 use Rattle.rules_history.specs.Alike.{Shape, shape, mappingsWeigh, devicesWeigh, Alike}
 use Rattle.laws_isolation.specs.Isolated.{map-alike, unmap-alike, allow-alike, ranges-alike}
 
@@ -31,20 +31,20 @@ SameAnswer d e = (d .answer .result ≡ e .answer .result) × (d .bytes ≡ e .b
 
 module _ (t u : Table) (gt : good t ≡ true) (gu : good u ≡ true) (bytes area : List ℕ) where
   pub door-map : Alike (field 4 bytes 8) t u → SameAnswer (callDone t 0x3B85 bytes area) (callDone u 0x3B85 bytes area)
-  unfolding callDone lookup commands find
+  unfolding callDone mapAnswer mapBytes
   door-map a = let q = map-alike t u gt gu bytes a in (q .0, q .1, refl)
 
   module _ (a : Alike (field 4 bytes 4) t u) where
     pub door-unmap : SameAnswer (callDone t 0x3B86 bytes area) (callDone u 0x3B86 bytes area)
-    unfolding callDone lookup commands find
+    unfolding callDone unmapAnswer unmapBytes
     door-unmap = let q = unmap-alike t u gt gu bytes a in (q .0, q .1, refl)
 
     pub door-allow : SameAnswer (callDone t 0x3B82 bytes area) (callDone u 0x3B82 bytes area)
-    unfolding callDone lookup commands find
+    unfolding callDone allowAnswer
     door-allow = (allow-alike t u gt gu bytes a area, refl, refl)
 
     pub door-ranges : SameAnswer (callDone t 0x3B84 bytes area) (callDone u 0x3B84 bytes area)
-    unfolding callDone lookup commands find
+    unfolding callDone rangesResult rangesReply rangesWritten outcome
     door-ranges = ranges-alike t u gt gu bytes a area
 
 -- the mappings of a space weigh what they weigh among themselves

@@ -21,11 +21,11 @@ use Rattle.rules_table.specs.declared.Table.{Table}
 use Rattle.rules_table.specs.Records.{within, cutBy}
 use Rattle.rules_table.specs.Charge.{charge, freeMapping}
 use Rattle.rules_table.specs.Good.{good}
-use Rattle.rules_calls.specs.Map.{roomChecks, foundOf, founding, mapDecided, mapCall, mapAnswer, mapBytes, mapChecks, mapNumberChecks, mapEdit}
-use Rattle.rules_calls.specs.Unmap.{asksAll, rangeAsked, removalBy, removalChecks, unmapDecided, unmapCall, unmapAnswer, unmapBytes, unmapChecks, unmapEdit, unmapNumberChecks}
-use Rattle.rules_calls.specs.Allow.{areaList, listChecks, allowAnswer, allowChecks, allowEdit, allowNumberChecks}
-use Rattle.rules_calls.specs.Ranges.{freeOf, repliesTo, rangesBytes, rangesArea, errnoOr, rangesCall, rangesResult, rangesReply, rangesWritten, rangesChecks, rangesErrno}
-use Rattle.rules_calls.specs.Gate.{gateErrno}
+use Rattle.rules_calls.specs.Map.{roomChecks, overLimit, foundOf, founding, mapChecks, mapNumberChecks, mapEdit}
+use Rattle.rules_calls.specs.Unmap.{asksAll, rangeAsked, removalBy, removalChecks, unmapChecks, unmapEdit, unmapNumberChecks}
+use Rattle.rules_calls.specs.Allow.{areaList, listChecks, allowChecks, allowEdit, allowNumberChecks}
+use Rattle.rules_calls.specs.Ranges.{freeOf, repliesTo, rangesBytes, rangesArea, rangesChecks, rangesErrno}
+use Rattle.rules_calls.specs.Named.{mapCall, mapAnswer, mapBytes, unmapCall, unmapAnswer, unmapBytes, allowAnswer, rangesCall, rangesResult, rangesReply, rangesWritten}
 use Rattle.rules_history.specs.Alike.{Alike}
 use Rattle.laws_isolation.specs.Mappings.{within-alike, cut-alike, removed-alike, free-alike}
 use Rattle.laws_isolation.specs.Devices.{touch-alike, free-ranges-alike}
@@ -36,7 +36,8 @@ use Rattle.edits.specs.Numbers.{mapNumberChecksAt, mapChecksAt, mapEditAt, unma
 -- ---- the checks, each the same test in both tables
 
 module _ (s : ℕ) (t u : Table) (a : Alike s t u) where
-  over-alike : (pages : ℕ) → ltb (t .limit) (charge (t .mappings) + pages) ≡ ltb (u .limit) (charge (u .mappings) + pages)
+  over-alike : (pages : ℕ) → overLimit (t .limit) (charge (t .mappings)) pages ≡ overLimit (u .limit) (charge (u .mappings)) pages
+  unfolding overLimit
   over-alike pages =
       leb-iff (suc (t .limit)) (charge (t .mappings) + pages) (suc (u .limit)) (charge (u .mappings) + pages)
       (λ h. omega (arith, h, a .limit, a .charge)) (λ h. omega (arith, h, a .limit, a .charge))
@@ -119,7 +120,7 @@ module _ (t u : Table) (good-t : good t ≡ true) (good-u : good u ≡ true) (by
   -- MAP: its space at offset 8
   module _ (a : Alike (field 4 bytes 8) t u) where
     map-call-alike : TellAlike (mapCall t bytes) (mapCall u bytes)
-    unfolding mapCall mapDecided
+    unfolding mapCall
     map-call-alike =
         settle-alike _ _ _ _ (gate-alike t u 0x3B85 bytes good-t good-u)
         (map-edit-alike (field 4 bytes 8) t u a (field 4 bytes 4) (field 4 bytes 12) (field 8 bytes 16) (field 8 bytes 24) (field 8 bytes 32))
@@ -131,7 +132,7 @@ module _ (t u : Table) (good-t : good t ≡ true) (good-u : good u ≡ true) (by
   -- the other three: their space at offset 4
   module _ (a : Alike (field 4 bytes 4) t u) where
     unmap-call-alike : TellAlike (unmapCall t bytes) (unmapCall u bytes)
-    unfolding unmapCall unmapDecided
+    unfolding unmapCall
     unmap-call-alike = settle-alike _ _ _ _ (gate-alike t u 0x3B86 bytes good-t good-u) (unmap-edit-alike (field 4 bytes 4) t u a (field 8 bytes 8) (field 8 bytes 16))
 
     pub unmap-alike : (unmapAnswer t bytes .result ≡ unmapAnswer u bytes .result) × (unmapBytes t bytes ≡ unmapBytes u bytes)
@@ -147,8 +148,8 @@ module _ (t u : Table) (good-t : good t ≡ true) (good-u : good u ≡ true) (by
     ranges-call-alike : (area : List ℕ) → rangesCall t bytes area ≡ rangesCall u bytes area
     unfolding rangesCall
     ranges-call-alike area =
-        ap (λ (n : ℕ). errnoOr n (rangesErrnoAt (t .objects) (field 4 bytes 4) (field 4 bytes 8) (field 4 bytes 12) area)) (gate-alike t u 0x3B84 bytes good-t good-u)
-        ∙ ap (errnoOr (gateErrno u 0x3B84 bytes)) (ranges-errno-alike (field 4 bytes 4) t u a (field 4 bytes 8) (field 4 bytes 12) area)
+        settle-alike _ _ _ _ (gate-alike t u 0x3B84 bytes good-t good-u)
+        (record { errno = ranges-errno-alike (field 4 bytes 4) t u a (field 4 bytes 8) (field 4 bytes 12) area; value = refl }) .errno
 
     pub ranges-alike : (area : List ℕ)
         → (rangesResult t bytes area ≡ rangesResult u bytes area) × (rangesReply t bytes area ≡ rangesReply u bytes area) × (rangesWritten t bytes area ≡ rangesWritten u bytes area)

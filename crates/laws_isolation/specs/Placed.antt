@@ -8,12 +8,13 @@ use Rattle.ranges.specs.declared.Range.{Range}
 use Rattle.ranges.specs.Ranges.{share, span}
 use Rattle.alignment.specs.declared.Spot.{Spot}
 use Rattle.alignment.specs.declared.Spot.the-variants.{Nowhere, At}
-use Rattle.alignment.specs.Multiples.{multiple, Lowest, lowest-unique}
+use Rattle.alignment.specs.Multiples.{multiple, Lowest, lowest-one, spotOf}
 use Rattle.placement.specs.Candidates.{permits}
 use Rattle.rules_table.specs.declared.Table.{Table}
 use Rattle.rules_table.specs.Records.{touches}
 use Rattle.rules_table.specs.Spaces.{alignment, reservedOf}
-use Rattle.rules_calls.specs.Landing.{blockedIn, automatic, spotAddress, taken, fixedChecks, automaticChecks, placeChecks, placeAt, CandidateIn}
+use Rattle.rules_calls.specs.Edits.{numberIn}
+use Rattle.rules_calls.specs.Landing.{blockedIn, automatic, taken, fixedChecks, automaticChecks, placeChecks, placeAt, CandidateIn}
 use Rattle.landing.specs.Landed.{any-blocked, automatic-lowest}
 use Rattle.rules_history.specs.Alike.{Alike}
 use Rattle.laws_isolation.specs.Mappings.{touches-alike, taken-alike}
@@ -62,8 +63,8 @@ module _ (s : ℕ) (t u : Table) (a : Alike s t u) where
 -- THE LAW: one automatic place
 pub automatic-alike : (s : ℕ) (t u : Table) → Alike s t u → (n : ℕ) → automatic (t .objects) (t .mappings) s n ≡ automatic (u .objects) (u .mappings) s n
 automatic-alike s t u a n =
-    lowest-unique (CandidateIn (u .objects) (u .mappings) s n) (automatic (t .objects) (t .mappings) s n) (automatic (u .objects) (u .mappings) s n)
-    (lowest-same (CandidateIn (t .objects) (t .mappings) s n) (CandidateIn (u .objects) (u .mappings) s n) (automatic (t .objects) (t .mappings) s n)
+    lowest-one (CandidateIn (u .objects) (u .mappings) s n) (automatic (t .objects) (t .mappings) s n) (automatic (u .objects) (u .mappings) s n)
+    (lowest-same (CandidateIn (t .objects) (t .mappings) s n) (CandidateIn (u .objects) (u .mappings) s n) (spotOf (automatic (t .objects) (t .mappings) s n))
     (candidate-alike s t u a n) (candidate-alike s u t (turned s t u a) n) (automatic-lowest (t .objects) (t .mappings) s n))
     (automatic-lowest (u .objects) (u .mappings) s n)
 
@@ -84,4 +85,4 @@ module _ (s : ℕ) (t u : Table) (a : Alike s t u) (n x : ℕ) where
   pub place-alike : (fixed : Bool) → placeAt (t .objects) (t .mappings) s fixed n x ≡ placeAt (u .objects) (u .mappings) s fixed n x
   unfolding placeAt
   place-alike true = refl
-  place-alike false = ap spotAddress (automatic-alike s t u a n)
+  place-alike false = ap numberIn (automatic-alike s t u a n)

@@ -2,36 +2,37 @@
 -- contracts of the archive's entries cite; the table that is lent goes the same way as a table by value, so demand 3 holds of it.
 use Prim.Native.Nat.{ℕ, zero, suc, _≤_, _<_, _-_, _^_, _%_}
 use mathlib.Core.Path.{_≡_, refl, sym, ap, _∙_}
-use mathlib.Core.List.{List, [], _∷_, map}
+use mathlib.Core.Bool.{Bool}
+use mathlib.Core.List.{List, [], _∷_, _++_, map}
 use native.Mathlib.Omega.{arith}
 use lib.IntN.{ℤ}
 use lib.ListN.{length, length-set, length-map, length-replicate, replicate}
 use Rattle.lists.specs.Checks.{first}
+use Rattle.ranges.specs.Ranges.{span}
 use Rattle.rules_calls.specs.Results.{result}
 use Rattle.rules_table.specs.declared.Object.{Object}
 use Rattle.rules_table.specs.declared.Table.{Table}
-use Rattle.rules_table.specs.Records.{freeObject, objectAt, zeroMapping, freshTable}
+use Rattle.rules_table.specs.Records.{freeObject, objectAt, homeOf, zeroMapping, freshTable}
 use Rattle.rules_calls.specs.declared.Change.{Change}
 use Rattle.rules_calls.specs.declared.Change.the-variants.{Nothing, Put, Drop, Map, Clear}
 use Rattle.rules_calls.specs.declared.Answer.{Answer}
-use Rattle.rules_calls.specs.Edits.{accept, settle, applied}
+use Rattle.rules_calls.specs.Edits.{accept, tells, settle, objectsAfter, applied}
 use Rattle.rules_calls.specs.Answers.{outcome, idOr, outcomeId}
-use Rattle.rules_calls.specs.Attach.{attachChecks, attachedObject, attachEdit, detachChecks, looseObject, detachEdit, attachCall, detachCall}
-use Rattle.rules_calls.specs.Reach.{reachOf}
-use Rattle.rules_calls.specs.declared.Reached.{Reached}
-use Rattle.rules_calls.specs.Bind.{bindCall}
+use Rattle.rules_calls.specs.Attach.{attachChecks, attachedObject, attachEdit, detachChecks, looseObject, detachEdit}
+use Rattle.rules_calls.specs.Reach.{around, memoryAt, reachChecks, heldChecks, reachBy, reachOf}
+use Rattle.rules_calls.specs.Named.{attachCall, detachCall, bindCall, reachCall}
 use Rattle.rules_calls.specs.Gate.{tableErrno}
-use Rattle.rules_calls.specs.Orders.{bindOrder, reachOrder, reachTold, hostEdit}
-use Rattle.host_calls.proofs.Guarding.{bind-value, reach-is}
-use Rattle.iommufd.specs.Deciding.{call-edit}
+use Rattle.rules_calls.specs.Orders.{bindOrder, reachOrder, hostEdit}
+use Rattle.host_calls.proofs.Guarding.{bind-value}
+use Rattle.edits.specs.Replies.{call-edit}
 use Rattle.rules_history.specs.Calls.{Call, replyOf, tableAfter, trace, after}
 use Rattle.rules_history.specs.Ledger.{empty, ledgerOf}
 use Rattle.rules_history.specs.Told.{Demand3}
 use Rattle.laws_history.specs.History.{demand-3}
-use Rattle.rules_table.specs.declared.Head.{Head}
-use Rattle.rules_table.specs.Layout.{encoded, decoded, tableOf, withRecord, freshHead}
+use Rattle.rules_table.specs.declared.RawObject.{RawObject}
+use Rattle.rules_table.specs.Layout.{encoded, decoded, tableOf, freshHead}
 use Rattle.layout.specs.Laws.{decode-encode}
-use Rattle.rules_lent.specs.Lent.{headBy, headAfter}
+use Rattle.rules_lent.specs.Lent.{headAfter}
 use Rattle.lent_calls.specs.Applied.{after-edit}
 use Rattle.rules_lent.specs.Entries.{hostResult}
 use Rattle.rules_lent.specs.Sequence.{Lent, lentTable, editOf, lentAfter, lentReply, lentTrace, lentRun, lentFresh}
@@ -39,33 +40,42 @@ use Rattle.rules_lent.specs.Sequence.{Lent, lentTable, editOf, lentAfter, lentR
 -- ---- one call
 
 -- there are always 32 objects
-still : (h : Head) (o : Object) (c : Change) → length (h .objects) ≡ 32 → length (headBy h o c .objects) ≡ 32
-unfolding withRecord
-still h o Nothing n = n
-still h o (Put i) n = length-set (h .objects) i (encoded o) ∙ n
-still h o (Drop i) n = length-set (h .objects) i (encoded freeObject) ∙ n
-still h o (Map i m) n = n
-still h o (Clear s r) n = n
+still : (rs : List RawObject) (free new : RawObject) (c : Change) → length (objectsAfter free new c rs) ≡ length rs
+still rs free new Nothing = refl
+still rs free new (Put i) = length-set rs i new
+still rs free new (Drop i) = length-set rs i free
+still rs free new (Map i m) = refl
+still rs free new (Clear s r) = refl
 
 step-still : (c : Call) (l : Lent) → length (l .head .objects) ≡ 32 → length (lentAfter c l .head .objects) ≡ 32
 unfolding headAfter
-step-still c l n = let e = editOf c (lentTable l) in still (l .head) (e .object) (e .change) n
+step-still c l n = let e = editOf c (lentTable l) in still (l .head .objects) (encoded freeObject) (encoded (e .object)) (e .change) ∙ n
+
+-- reach changes nothing
+settled-stays : (t : Table) (m k v : ℕ) → applied t (settle m (settle k (tells v))) ≡ t
+unfolding applied
+settled-stays t zero zero v = refl
+settled-stays t zero (suc k) v = refl
+settled-stays t (suc m) k v = refl
+
+reach-stays : (t : Table) (d a n : ℕ) (write : Bool) → applied t (hostEdit t (reachOrder d a n write)) ≡ t
+unfolding hostEdit reachOf reachBy
+reach-stays t d a n write =
+    let x = objectAt (t .objects) d .kind in
+    let o = around (t .mappings) (homeOf x) (span a n) in
+    settled-stays t (tableErrno t) (first (reachChecks x a n ++ heldChecks write o) 0) (memoryAt a o)
 
 -- by value, a call's table is its edit, applied
 by-value : (c : Call) (t : Table) → applied t (editOf c t) ≡ tableAfter c t
-unfolding outcome outcomeId bindCall attachCall detachCall hostEdit applied
+unfolding outcome outcomeId bindCall attachCall detachCall
 by-value (Call.Command request bytes area) t = sym (ap (λ (a : Answer). a .table) (call-edit t request bytes area))
 by-value (Call.Bind bitmap r) t = refl
 by-value (Call.Attach d s) t = refl
 by-value (Call.Detach d) t = refl
-by-value (Call.Reach d a n write) t = nothing (tableErrno t)
-  where
-    nothing : (m : ℕ) → applied t (settle m (reachTold (reachOf (t .objects) (t .mappings) d a n write))) ≡ t
-    nothing zero = refl
-    nothing (suc m) = refl
+by-value (Call.Reach d a n write) t = reach-stays t d a n write
 
-step-table : (c : Call) (l : Lent) → length (l .head .objects) ≡ 32 → lentTable (lentAfter c l) ≡ tableAfter c (lentTable l)
-step-table c l n = after-edit (l .head) n (l .records) (editOf c (lentTable l)) ∙ by-value c (lentTable l)
+step-table : (c : Call) (l : Lent) → lentTable (lentAfter c l) ≡ tableAfter c (lentTable l)
+step-table c l = after-edit (l .head) (l .records) (editOf c (lentTable l)) ∙ by-value c (lentTable l)
 
 same-id : (m n : ℕ) → n < 256 → idOr m (n % 256) ≡ idOr m n
 same-id zero n h = ap (idOr 0) (omega (arith, h))
@@ -79,29 +89,27 @@ no-number zero (suc k) c o = refl
 no-number (suc m) k c o = refl
 
 step-reply : (c : Call) (l : Lent) → length (l .head .objects) ≡ 32 → lentReply c l ≡ replyOf c (lentTable l)
-unfolding outcome outcomeId bindCall attachCall attachEdit detachCall detachEdit hostEdit tableOf
+unfolding outcome outcomeId bindCall attachCall attachEdit detachCall detachEdit reachCall hostEdit tableOf
 step-reply (Call.Command request bytes area) l n = rw (call-edit (lentTable l) request bytes area)
 step-reply (Call.Bind bitmap r) l n =
     let e = hostEdit (lentTable l) (bindOrder bitmap r) in
     ap (λ (z : ℤ). record { result = z; bytes = [] }) (same-id (e .errno) (e .value) (bind-value (lentTable l) bitmap r e (length-map (l .head .objects) decoded ∙ n) refl))
 step-reply (Call.Attach d s) l n = ap (λ (z : ℤ). record { result = z; bytes = [] }) (no-number (tableErrno (lentTable l)) (first (attachChecks (lentTable l .objects) (l .records) (objectAt (lentTable l .objects) d) s) 0) (Put (d - 1)) (attachedObject (objectAt (lentTable l .objects) d) s))
 step-reply (Call.Detach d) l n = ap (λ (z : ℤ). record { result = z; bytes = [] }) (no-number (tableErrno (lentTable l)) (first (detachChecks (objectAt (lentTable l .objects) d)) 0) (Put (d - 1)) (looseObject (objectAt (lentTable l .objects) d)))
-step-reply (Call.Reach d a m write) l n =
-    let e = hostEdit (lentTable l) (reachOrder d a m write) in
-    ap (λ (x : Reached). record { result = x .result; bytes = [] }) (reach-is (lentTable l) d a m write e (result (e .errno)) refl refl)
+step-reply (Call.Reach d a m write) l n = refl
 
 -- ---- the sequence
 
 -- THE LAWS: the table that is lent goes as the table by value, and the answers are the same
-pub lent-after : (cs : List Call) (l : Lent) → length (l .head .objects) ≡ 32 → lentTable (lentRun cs l) ≡ after cs (lentTable l)
+pub lent-after : (cs : List Call) (l : Lent) → lentTable (lentRun cs l) ≡ after cs (lentTable l)
 unfolding lentRun after
-lent-after [] l n = refl
-lent-after (c ∷ cs) l n = lent-after cs (lentAfter c l) (step-still c l n) ∙ ap (after cs) (step-table c l n)
+lent-after [] l = refl
+lent-after (c ∷ cs) l = lent-after cs (lentAfter c l) ∙ ap (after cs) (step-table c l)
 
 pub lent-trace : (cs : List Call) (l : Lent) → length (l .head .objects) ≡ 32 → lentTrace cs l ≡ trace cs (lentTable l)
 unfolding lentTrace trace
 lent-trace [] l n = refl
-lent-trace (c ∷ cs) l n = rw (step-reply c l n, lent-trace cs (lentAfter c l) (step-still c l n), step-table c l n)
+lent-trace (c ∷ cs) l n = rw (step-reply c l n, lent-trace cs (lentAfter c l) (step-still c l n), step-table c l)
 
 free-decoded : (n : ℕ) → map decoded (replicate n (encoded freeObject)) ≡ replicate n freeObject
 free-decoded zero = refl
@@ -118,4 +126,4 @@ fresh-many limit = length-replicate 32 (encoded freeObject)
 -- THE THEOREM: demand 3, whole, for a table in the caller's memory
 pub demand-3-lent : (limit : ℕ) → limit ≤ 2 ^ 36 → (cs : List Call) → Demand3 limit (ledgerOf (lentTrace cs (lentFresh limit)) empty) (lentTable (lentRun cs (lentFresh limit)))
 demand-3-lent limit h cs =
-    rw (lent-trace cs (lentFresh limit) (fresh-many limit), lent-after cs (lentFresh limit) (fresh-many limit), fresh-lent limit) (demand-3 limit h cs)
+    rw (lent-trace cs (lentFresh limit) (fresh-many limit), lent-after cs (lentFresh limit), fresh-lent limit) (demand-3 limit h cs)

@@ -1,46 +1,35 @@
 -- A refusal in the caller's memory: one other than -90 leaves head, records, command and range area, number for number, and so does a bad table, which is 117.
-use Prim.Native.Nat.{ℕ, zero, suc, _-_, _%_}
-use mathlib.Core.Path.{_≡_, refl, sym, ap, _∙_}
+use Prim.Native.Nat.{ℕ, _%_}
+use mathlib.Core.Path.{_≡_, sym, ap, _∙_}
 use mathlib.Core.Bool.{false}
 use mathlib.Core.List.{List}
 use native.Mathlib.Omega.{arith}
 use lib.IntN.{ℤ, negsuc}
-use Rattle.lists.specs.Checks.{first}
 use Rattle.rules_calls.specs.Results.{result}
 use Rattle.rules_table.specs.declared.Mapping.{Mapping}
-use Rattle.rules_table.specs.declared.Table.{Table}
-use Rattle.rules_table.specs.Records.{objectAt}
-use Rattle.rules_table.specs.Charge.{freeRecord}
 use Rattle.rules_table.specs.Good.{good}
-use Rattle.rules_calls.specs.declared.Change.{Change}
 use Rattle.rules_calls.specs.declared.Change.the-variants as Changes
 use Rattle.rules_calls.specs.declared.Edit.{Edit}
-use Rattle.rules_calls.specs.Answers.{outcome, idOr}
+use Rattle.rules_calls.specs.Answers.{outcome}
 use Rattle.rules_calls.specs.Gate.{tableErrno}
 use Rattle.rules_calls.specs.Call.{callDone, callEdit}
-use Rattle.laws_refusal.specs.Edits.{Silent, silent-accept, silent-settle, silent-placed, errno-of}
+use Rattle.laws_refusal.specs.Edits.{errno-of, negative-id}
 use Rattle.rules_table.specs.declared.Head.{Head}
 use Rattle.rules_table.specs.Layout.{tableOf}
-use Rattle.lent_records.specs.Stored.{stored-keep}
-use Rattle.rules_lent.specs.Lent.{headBy, headAfter, recordsOf, recordsAfter}
+use Rattle.rules_lent.specs.Lent.{headAfter, recordsAfter}
 use Rattle.rules_lent.specs.Entries.{LentCall, LentHost, LentTold}
-use Rattle.rules_lent.specs.Records.{stored}
-use Rattle.iommufd.specs.Deciding.{call-edit}
+use Rattle.edits.specs.Replies.{call-edit}
 use Rattle.rules_calls.specs.declared.Answer.{Answer}
-use Rattle.rules_table.specs.Fits.{bindChecks}
-use Rattle.rules_calls.specs.Bind.{newDevice, bindEdit, bindRule}
-use Rattle.rules_calls.specs.Attach.{attachedObject, looseObject, attachChecks, attachEdit, detachChecks, detachEdit}
-use Rattle.rules_calls.specs.declared.Act.{Act}
-use Rattle.rules_calls.specs.declared.Act.the-variants.{Bind, Attach, Detach, Reach, Charge}
 use Rattle.rules_calls.specs.declared.Order.{Order}
-use Rattle.rules_calls.specs.Orders.{actEdit, hostEdit}
+use Rattle.rules_calls.specs.Orders.{hostEdit}
 use Rattle.rules_lent.specs.declared.Number.{Number}
-use Rattle.laws_refusal.specs.EveryCall.{silent-call, call-refused}
+use Rattle.laws_refusal.specs.Silent.{silent-call, silent-host}
+use Rattle.laws_refusal.specs.EveryCall.{call-refused}
 use Rattle.laws_refusal.specs.BadTable.{bad-call}
 
 kept : (h : Head) (ms : List Mapping) (e : Edit) → e .change ≡ Changes.Nothing → (headAfter e h ≡ h) × (recordsAfter e ms ≡ ms)
 unfolding headAfter recordsAfter
-kept h ms e n = (ap (λ (c : Change). headBy h (e .object) c) n, ap (λ (c : Change). stored (recordsOf c) ms) n ∙ stored-keep ms)
+kept h ms e n = (rw n, rw n)
 
 -- ---- commands
 
@@ -78,22 +67,6 @@ module _ (h : Head) (ms : List Mapping) (request : ℕ) (cmd area : List ℕ) (r
 
 -- ---- host calls
 
-silent-act : (t : Table) (o : Order) (k : Act) → Silent (actEdit t o k)
-unfolding bindEdit attachEdit detachEdit
-silent-act t o Bind = silent-settle (first (bindRule (t .objects) (o .bitmap) (o .reserved)) 0) _ (silent-placed (freeRecord (t .objects)) (newDevice (o .bitmap) (o .reserved)))
-silent-act t o Attach = silent-settle (first (attachChecks (t .objects) (t .mappings) (objectAt (t .objects) (o .second)) (o .first)) 0) _ (silent-accept 0 (Changes.Put (o .second - 1)) (attachedObject (objectAt (t .objects) (o .second)) (o .first)))
-silent-act t o Detach = silent-settle (first (detachChecks (objectAt (t .objects) (o .first))) 0) _ (silent-accept 0 (Changes.Put (o .first - 1)) (looseObject (objectAt (t .objects) (o .first))))
-silent-act t o (Reach write) = λ h. refl
-silent-act t o Charge = λ h. refl
-
-silent-host : (t : Table) (o : Order) → Silent (hostEdit t o)
-unfolding hostEdit
-silent-host t o = silent-settle (tableErrno t) (actEdit t o (o .act)) (silent-act t o (o .act))
-
-negative-id : (n id k : ℕ) → idOr n id ≡ negsuc k → n ≡ 0 → ⊥
-negative-id zero id k e z = let y : _≡_ {A = ℕ} 0 1 = cc in omega (arith, y)
-negative-id (suc n) id k e z = omega (arith, z)
-
 -- THE LAWS
 pub lent-host-refused : (h : Head) (ms : List Mapping) (o : Order) (r : ℤ) (h′ : Head) (ms′ : List Mapping) → LentHost h ms o r h′ ms′ → (k : ℕ) → r ≡ negsuc k → (h′ ≡ h) × (ms′ ≡ ms)
 lent-host-refused h ms o r h′ ms′ l k e =
@@ -108,6 +81,6 @@ lent-host-bad h ms o r h′ ms′ l g =
     let q = lent-host-refused h ms o r h′ ms′ l 116 e in
     (e, q .0, q .1)
 
-pub lent-told-bad : (h : Head) (ms : List Mapping) (o : Order) (n : Number) → LentTold h ms o n → good (tableOf h ms) ≡ false → n ≡ record { result = negsuc 116; value = 0 }
+pub lent-told-bad : (h : Head) (ms : List Mapping) (o : Order) (n : Number) (h′ : Head) (ms′ : List Mapping) → LentTold h ms o n h′ ms′ → good (tableOf h ms) ≡ false → n ≡ record { result = negsuc 116; value = 0 }
 unfolding hostEdit tableErrno result
-lent-told-bad h ms o n l g = l .number ∙ rw g
+lent-told-bad h ms o n h′ ms′ l g = l .number ∙ rw g

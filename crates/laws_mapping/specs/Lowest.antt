@@ -20,9 +20,9 @@ use Rattle.rules_table.specs.Spaces.{alignment}
 use Rattle.rules_calls.specs.declared.Edit.{Edit}
 use Rattle.rules_calls.specs.Edits.{settle}
 use Rattle.rules_calls.specs.Answers.{outcome}
-use Rattle.rules_calls.specs.Copy.{sourceOf, sourceChecks, copyDecided, copyCall, copyAnswer, copyBytes}
+use Rattle.rules_calls.specs.Copy.{sourceOf, sourceChecks}
 use Rattle.rules_calls.specs.Landing.{CandidateIn}
-use Rattle.rules_calls.specs.Map.{mapDecided, mapCall, mapAnswer, mapBytes}
+use Rattle.rules_calls.specs.Named.{copyDecided, copyCall, copyAnswer, copyBytes, mapDecided, mapCall, mapAnswer, mapBytes}
 use Rattle.laws_mapping.specs.Landing.{LandedAt, landed-uncovered, map-landed, copy-landed}
 use Rattle.laws_mapping.specs.Nowhere.{map-28, map-28-only, copy-28, copy-28-only}
 use Rattle.rules_calls.specs.Gate.{gateErrno}
@@ -41,7 +41,6 @@ module _ (t : Table) (bytes : List ℕ) (ok : mapAnswer t bytes .result ≡ pos 
   map-accepted = accepted t 0x3B85 bytes (mapDecided t bytes) ok
 
   decided : LandedAt (t .objects) (t .mappings) (field 4 bytes 8) (bit 0 (field 4 bytes 4)) (field 8 bytes 24) (field 8 bytes 32) (mapDecided t bytes .value)
-  unfolding mapDecided
   decided = map-landed (t .limit) (t .objects) (t .mappings) (field 4 bytes 4) (field 4 bytes 8) (field 4 bytes 12) (field 8 bytes 16) (field 8 bytes 24) (field 8 bytes 32) (map-accepted .errno)
 
   pub map-written : field 8 (mapBytes t bytes) 32 ≡ mapDecided t bytes .value
@@ -69,14 +68,14 @@ module _ (t : Table) (bytes : List ℕ) (gate : gateErrno t 0x3B85 bytes ≡ 0)
   map-open = ap (λ (x : ℕ). settle x (mapDecided t bytes)) gate
 
   pub map-nowhere : ((y : ℕ) → CandidateIn (t .objects) (t .mappings) (field 4 bytes 8) (field 8 bytes 24) y → ⊥) → mapAnswer t bytes .result ≡ negsuc 27
-  unfolding mapAnswer outcome mapDecided
+  unfolding mapAnswer outcome
   map-nowhere none =
       ap (λ (e : Edit). result (e .errno)) map-open
       ∙ ap result (map-28 (t .limit) (t .objects) (t .mappings) (field 4 bytes 4) (field 4 bytes 8) (field 4 bytes 12) (field 8 bytes 16) (field 8 bytes 24) (field 8 bytes 32) numbers free m none)
       ∙ result-suc 27
 
   pub map-nowhere-only : mapAnswer t bytes .result ≡ negsuc 27 → (y : ℕ) → CandidateIn (t .objects) (t .mappings) (field 4 bytes 8) (field 8 bytes 24) y → ⊥
-  unfolding mapAnswer outcome mapDecided
+  unfolding mapAnswer outcome
   map-nowhere-only r =
       map-28-only (t .limit) (t .objects) (t .mappings) (field 4 bytes 4) (field 4 bytes 8) (field 4 bytes 12) (field 8 bytes 16) (field 8 bytes 24) (field 8 bytes 32) numbers free m
       (result-errno (mapDecided t bytes .errno) 27 (sym (ap (λ (e : Edit). result (e .errno)) map-open) ∙ r))
@@ -89,7 +88,6 @@ module _ (t : Table) (bytes : List ℕ) (ok : copyAnswer t bytes .result ≡ pos
   copy-accepted = accepted t 0x3B83 bytes (copyDecided t bytes) ok
 
   copy-decided : LandedAt (t .objects) (t .mappings) (field 4 bytes 8) (bit 0 (field 4 bytes 4)) (field 8 bytes 16) (field 8 bytes 24) (copyDecided t bytes .value)
-  unfolding copyDecided
   copy-decided = copy-landed (t .objects) (t .mappings) (field 4 bytes 4) (field 4 bytes 8) (field 4 bytes 12) (field 8 bytes 16) (field 8 bytes 24) (field 8 bytes 32) (copy-accepted .errno)
 
   pub copy-written : field 8 (copyBytes t bytes) 24 ≡ copyDecided t bytes .value
@@ -115,14 +113,14 @@ module _ (t : Table) (bytes : List ℕ) (gate : gateErrno t 0x3B83 bytes ≡ 0)
   copy-open = ap (λ (x : ℕ). settle x (copyDecided t bytes)) gate
 
   pub copy-nowhere : ((y : ℕ) → CandidateIn (t .objects) (t .mappings) (field 4 bytes 8) (field 8 bytes 16) y → ⊥) → copyAnswer t bytes .result ≡ negsuc 27
-  unfolding copyAnswer outcome copyDecided
+  unfolding copyAnswer outcome
   copy-nowhere none =
       ap (λ (e : Edit). result (e .errno)) copy-open
       ∙ ap result (copy-28 (t .objects) (t .mappings) (field 4 bytes 4) (field 4 bytes 8) (field 4 bytes 12) (field 8 bytes 16) (field 8 bytes 24) (field 8 bytes 32) numbers sources free m none)
       ∙ result-suc 27
 
   pub copy-nowhere-only : copyAnswer t bytes .result ≡ negsuc 27 → (y : ℕ) → CandidateIn (t .objects) (t .mappings) (field 4 bytes 8) (field 8 bytes 16) y → ⊥
-  unfolding copyAnswer outcome copyDecided
+  unfolding copyAnswer outcome
   copy-nowhere-only r =
       copy-28-only (t .objects) (t .mappings) (field 4 bytes 4) (field 4 bytes 8) (field 4 bytes 12) (field 8 bytes 16) (field 8 bytes 24) (field 8 bytes 32) numbers sources free m
       (result-errno (copyDecided t bytes .errno) 27 (sym (ap (λ (e : Edit). result (e .errno)) copy-open) ∙ r))

@@ -22,7 +22,7 @@ use Rattle.rules_calls.specs.declared.Edit.{Edit}
 use Rattle.rules_calls.specs.Edits.{settle, isNone}
 use Rattle.rules_calls.specs.Copy.{sourceOf, sourceMapping, sourceChecks, recordChecks, copyNumberChecks, copyChecks}
 use Rattle.rules_calls.specs.Landing.{fixedChecks, automaticChecks, placeChecks}
-use Rattle.rules_calls.specs.Map.{noRight, wrongLength, fixedPasses, roomChecks, mapChecks, mapNumberChecks}
+use Rattle.rules_calls.specs.Map.{noRight, wrongLength, fixedPasses, roomChecks, overLimit, mapChecks, mapNumberChecks}
 use Rattle.rules_calls.specs.Unmap.{asksAll, rangeAsked, removalBy, removalChecks, unmapChecks, unmapNumberChecks}
 use Rattle.edits.specs.Numbers.{mapNumberChecksAt, mapChecksAt, copyNumberChecksAt, copyChecksAt, unmapNumberChecksAt, unmapChecksAt}
 
@@ -60,6 +60,11 @@ wanted flags n x r l f =
       short = ltb-false (2 ^ 40) n (or-not-right (eqb n 0) (ltb (2 ^ 40) n) l);
       fixed = λ b. sym (rw b) ∙ f;
     }
+
+-- the charge that passed is within the limit
+within-limit : (limit charged pages : ℕ) → overLimit limit charged pages ≡ false → charged + pages ≤ limit
+unfolding overLimit
+within-limit limit charged pages e = ltb-false limit (charged + pages) e
 
 -- every check of a place is a refusal
 place-refuse : (os : List Object) (ms : List Mapping) (s : ℕ) (fixed : Bool) (n x : ℕ) → Refusals (placeChecks os ms s fixed n x) 0
@@ -102,7 +107,7 @@ module _ (limit : ℕ) (os : List Object) (ms : List Mapping) (flags s z memory 
         space = not-false (spaceAt os s) (map-number (p .0) 5 (omega arith));
         placed = q .0;
         free = passed (roomChecks (freeMapping ms) limit (charge ms) (pagesTouched memory n)) 0 (when false 0) room-refuse (q .1) 0 (omega arith);
-        room = ltb-false limit (charge ms + pagesTouched memory n) (passed (roomChecks (freeMapping ms) limit (charge ms) (pagesTouched memory n)) 0 (when false 0) room-refuse (q .1) 1 (omega arith));
+        room = within-limit limit (charge ms) (pagesTouched memory n) (passed (roomChecks (freeMapping ms) limit (charge ms) (pagesTouched memory n)) 0 (when false 0) room-refuse (q .1) 1 (omega arith));
       }
 
 -- ---- COPY

@@ -18,7 +18,7 @@ use Rattle.rules_table.specs.declared.Table.{Table}
 use Rattle.rules_table.specs.Records.{zeroMapping, freeObject, spaceAt, ofSpace, extent, touches, within, cutBy, release}
 use Rattle.table.specs.Cleared.{release-true, release-false}
 use Rattle.rules_calls.specs.declared.Change.the-variants.{Clear}
-use Rattle.rules_calls.specs.Edits.{accept, clearInside, applied}
+use Rattle.rules_calls.specs.Edits.{accept, applied}
 use Rattle.rules_calls.specs.Unmap.{removedBytes, rangeAsked, unmapEdit}
 use Rattle.edits.specs.Settled.{space-id}
 use Rattle.laws_mapping.specs.Passed.{settled-zero, unmap-passed}
@@ -82,12 +82,12 @@ module _ (t : Table) (s a n : ℕ) (e : unmapEditAt (t .objects) (t .mappings) s
 
   -- the bytes told are those that the records lose
   pub unmap-told : mappedBytes (t .mappings) ≡ mappedBytes (applied t (unmapEditAt (t .objects) (t .mappings) s a n) .mappings) + unmapEditAt (t .objects) (t .mappings) s a n .value
-  unfolding applied clearInside removedBytes
+  unfolding applied removedBytes
   unmap-told = rw taken (released-bytes (within s (rangeAsked a n)) (t .mappings))
 
   -- no mapping that is left shares an address with the range asked
   pub unmap-left : any (touches s (rangeAsked a n)) (applied t (unmapEditAt (t .objects) (t .mappings) s a n) .mappings) ≡ false
-  unfolding applied clearInside
+  unfolding applied
   unmap-left =
       let p = unmap-passed (t .objects) (t .mappings) s a n checked in
       rw taken (cleared-alone s (rangeAsked a n) (t .mappings) (space-some (t .objects) s (p .space)) (p .uncut))

@@ -21,7 +21,8 @@ use Rattle.table.specs.Sound.{Sound, good-sound}
 use Rattle.table.specs.Facts.{record-used, record-free}
 use Rattle.rules_calls.specs.Edits.{applied}
 use Rattle.rules_calls.specs.Answers.{outcome}
-use Rattle.rules_calls.specs.Unmap.{rangeAsked, unmapDecided, unmapCall, unmapAnswer, unmapBytes}
+use Rattle.rules_calls.specs.Unmap.{rangeAsked}
+use Rattle.rules_calls.specs.Named.{unmapDecided, unmapCall, unmapAnswer, unmapBytes}
 use Rattle.laws_mapping.specs.Removed.{mappedBytes, unmap-told, unmap-left}
 use Rattle.laws_mapping.specs.Accepted.{gate-table, Accepted, accepted, reply-read}
 
@@ -48,7 +49,6 @@ module _ (t : Table) (bytes : List ℕ) (ok : unmapAnswer t bytes .result ≡ po
   after = ap (applied t) (unmap-accepted .same)
 
   lost : mappedBytes (t .mappings) ≡ mappedBytes (applied t (unmapDecided t bytes) .mappings) + unmapDecided t bytes .value
-  unfolding unmapDecided
   lost = unmap-told t (field 4 bytes 4) (field 8 bytes 8) (field 8 bytes 16) (unmap-accepted .errno)
 
   pub unmap-written : field 8 (unmapBytes t bytes) 16 ≡ unmapDecided t bytes .value
@@ -61,5 +61,4 @@ module _ (t : Table) (bytes : List ℕ) (ok : unmapAnswer t bytes .result ≡ po
 
   -- no mapping of the space that is left shares an address with the range asked
   pub unmap-clear : any (touches (field 4 bytes 4) (rangeAsked (field 8 bytes 8) (field 8 bytes 16))) (unmapAnswer t bytes .table .mappings) ≡ false
-  unfolding unmapDecided
   unmap-clear = rw after (unmap-left t (field 4 bytes 4) (field 8 bytes 8) (field 8 bytes 16) (unmap-accepted .errno))

@@ -8,7 +8,7 @@ use lib.Dec.{leb}
 use lib.ListN.{length, getD}
 use borrow.Author.Tests.{eqb-true, eq-eqb, ne-eqb, le-leb, le-ltb}
 use Rattle.lists.specs.Tests.{by-test, and-left, and-right, and-both}
-use Rattle.lists.specs.Search.{any, any-place, all-at, find-some, find-place, find-any-false}
+use Rattle.lists.specs.Search.{any, any-slot, all-at, find-some, find-slot, find-any-false}
 use Rattle.lists.specs.Each.{Each-at}
 use Rattle.lists.specs.Sums.{find-only}
 use Rattle.ranges.specs.Ranges.{U64MAX, holds, holds-of, inside, inside-from, inside-upto, passes, lastOf, lastOf-fits, span}
@@ -23,7 +23,7 @@ use Rattle.table.specs.Checked.{objectOk, objectsOk, recordOk}
 use Rattle.table.specs.Sound.{Sound}
 use Rattle.table.specs.Facts.{record-used}
 use Rattle.edits.specs.Settled.{space-id}
-use Rattle.laws_good.specs.DeviceKept.{device-place}
+use Rattle.laws_good.specs.DeviceKept.{device-slot}
 use Rattle.rules_calls.specs.Reach.{around}
 use Rattle.host_device.specs.Held.{holdsAll}
 use Rattle.laws_reach.specs.Plain.{Holding, Asked}
@@ -35,7 +35,7 @@ pub home-some : (t : Table) → Sound t → (d s : ℕ) → objectAt (t .objects
 unfolding objectAt objectsOk objectOk deviceNames spaceAt
 home-some t g d s e =
     let os = t .objects in
-    let w = device-place os d (ap (λ (k : Kind). isDevice k) e) in
+    let w = device-slot os d (ap (λ (k : Kind). isDevice k) e) in
     let o = getD os (w .0) freeObject in
     let names = and-left (deviceNames os o) (deviceValid o && (listValid o && (listClear os o && objectZero o))) (all-at (objectOk os) os freeObject (g .objects) (w .0) (w .2)) in
     let at : o .kind ≡ Device (Attached s) = rw (w .1) at e in
@@ -58,7 +58,7 @@ module _ (t : Table) (g : Sound t) (d s a n : ℕ) (q : Asked t d s a n) where
   held-test : (m : Mapping) → Holding t s a n m → holdsAll s (span a n) m ≡ true
   unfolding holdsAll ofSpace extent inside span
   held-test m h =
-      let ok = ap (recordOk (t .objects)) (sym (h .stands)) ∙ record-at (h .place) (h .there) in
+      let ok = ap (recordOk (t .objects)) (sym (h .stands)) ∙ record-at (h .slot) (h .there) in
       let o = eq-eqb (m .space) s (omega (arith, h .space)) in
       let r = record-used (t .objects) m (space-used m o) ok in
       let x = lastOf a n in
@@ -78,7 +78,7 @@ module _ (t : Table) (g : Sound t) (d s a n : ℕ) (q : Asked t d s a n) where
       let first = inside-from (span a n) (extent m) j in
       let last = inside-upto (span a n) (extent m) j in
       record {
-        place = i;
+        slot = i;
         there = l;
         stands = refl;
         space = omega (arith, eqb-true (m .space) s o);
@@ -103,12 +103,12 @@ module _ (t : Table) (g : Sound t) (d s a n : ℕ) (q : Asked t d s a n) where
   unfolding around holdsAll
   held-found m h =
       let e = h .stands in
-      find-only (holdsAll s (span a n)) (covers s a) test-covers (t .mappings) zeroMapping (g .once s a) (h .place) (h .there) (ap (holdsAll s (span a n)) e ∙ held-test m h) ∙ ap some e
+      find-only (holdsAll s (span a n)) (covers s a) test-covers (t .mappings) zeroMapping (g .once s a) (h .slot) (h .there) (ap (holdsAll s (span a n)) e ∙ held-test m h) ∙ ap some e
 
   pub found-held : (m : Mapping) → around (t .mappings) s (span a n) ≡ some m → Holding t s a n m
   unfolding around holdsAll
   found-held m e =
-      let w = find-place (holdsAll s (span a n)) (t .mappings) zeroMapping m e in
+      let w = find-slot (holdsAll s (span a n)) (t .mappings) zeroMapping m e in
       subst (λ (x : Mapping). Holding t s a n x) (w .2) (test-held (w .0) (w .1) (ap (holdsAll s (span a n)) (w .2) ∙ find-some (holdsAll s (span a n)) (t .mappings) m e))
 
   -- where none holds it none is found, and where none is found none holds it
@@ -117,7 +117,7 @@ module _ (t : Table) (g : Sound t) (d s a n : ℕ) (q : Asked t d s a n) where
   unheld-none f =
       find-any-false (holdsAll s (span a n)) (t .mappings)
       (by-test (any (holdsAll s (span a n)) (t .mappings))
-      (λ e. let w = any-place (holdsAll s (span a n)) (t .mappings) zeroMapping e in absurd (f (getD (t .mappings) (w .0) zeroMapping) (test-held (w .0) (w .1) (w .2))))
+      (λ e. let w = any-slot (holdsAll s (span a n)) (t .mappings) zeroMapping e in absurd (f (getD (t .mappings) (w .0) zeroMapping) (test-held (w .0) (w .1) (w .2))))
       (λ e. e))
 
   pub none-unheld : around (t .mappings) s (span a n) ≡ none → (m : Mapping) → Holding t s a n m → ⊥

@@ -1,16 +1,14 @@
 -- The same laws for the archive's entry `iommufd_reach`, whose contract is `LentTold`: the table is the one that the caller's head and mapping records stand for.
 use Prim.Native.Nat.{ℕ}
-use mathlib.Core.Path.{_≡_, refl, sym, ap, _∙_}
+use mathlib.Core.Path.{_≡_, sym, ap, _∙_}
 use mathlib.Core.Bool.{true}
 use mathlib.Core.List.{List}
 use lib.IntN.{ℤ, pos, negsuc}
-use Rattle.rules_calls.specs.Results.{result}
 use Rattle.rules_table.specs.declared.Mapping.{Mapping}
 use Rattle.rules_table.specs.Good.{good}
 use Rattle.rules_calls.specs.declared.Reached.{Reached}
-use Rattle.rules_calls.specs.Reach.{reachCall}
-use Rattle.rules_calls.specs.Orders.{reachOrder, hostEdit}
-use Rattle.host_calls.proofs.Guarding.{reach-is}
+use Rattle.rules_calls.specs.Named.{reachCall}
+use Rattle.rules_calls.specs.Orders.{reachOrder}
 use Rattle.rules_table.specs.declared.Head.{Head}
 use Rattle.rules_table.specs.Layout.{tableOf}
 use Rattle.rules_lent.specs.declared.Number.{Number}
@@ -22,12 +20,11 @@ use Rattle.laws_reach.specs.Reach.{answers, reach-0, reach-1, reach-14}
 abbrev pub tells : ℤ → ℕ → Number
 tells z y = record { result = z; value = y }
 
-module _ (h : Head) (ms : List Mapping) (g : good (tableOf h ms) ≡ true) (d a n w : ℕ) (x : Number) (c : LentTold h ms (reachOrder d a n (isWrite w)) x) where
+module _ (h : Head) (ms : List Mapping) (g : good (tableOf h ms) ≡ true) (d a n w : ℕ) (x : Number) (h′ : Head) (ms′ : List Mapping) (c : LentTold h ms (reachOrder d a n (isWrite w)) x h′ ms′) where
   -- the entry tells what reach answers
   same : answers (x .result) (x .value) ≡ reachCall (tableOf h ms) d a n (isWrite w)
-  same =
-      let e = hostEdit (tableOf h ms) (reachOrder d a n (isWrite w)) in
-      ap (λ (k : Number). answers (k .result) (k .value)) (c .number) ∙ reach-is (tableOf h ms) d a n (isWrite w) e (result (e .errno)) refl refl
+  unfolding reachCall
+  same = ap (λ (k : Number). answers (k .result) (k .value)) (c .number)
 
   told : (z : ℤ) (y : ℕ) → reachCall (tableOf h ms) d a n (isWrite w) ≡ answers z y → x ≡ tells z y
   told z y e = ap (λ (r : Reached). tells (r .result) (r .address)) (same ∙ e)

@@ -2,7 +2,7 @@
 -- attached. Nothing that computes reach is cited here, only the records of the table, their numbers and two bits.
 use Prim.Native.Nat.{ℕ, _+_, _-_, _≤_, _<_, _^_}
 use mathlib.Core.Path.{_≡_}
-use mathlib.Core.Option.{none, some}
+use mathlib.Core.Option.{some}
 use mathlib.Core.Bool.{Bool, true, false}
 use lib.ListN.{length, getD}
 use Rattle.rules_table.specs.Flags.{bit}
@@ -20,9 +20,9 @@ rightIn false rights = bit 1 rights
 
 -- m stands in the table, belongs to space s, and has all the n addresses from a on
 pub record Holding (t : Table) (s a n : ℕ) (m : Mapping) : Type 0 where
-  pub place : ℕ
-  pub there : place < length (t .mappings)
-  pub stands : getD (t .mappings) place zeroMapping ≡ m
+  pub slot : ℕ
+  pub there : slot < length (t .mappings)
+  pub stands : getD (t .mappings) slot zeroMapping ≡ m
   pub space : m .space ≡ s
   pub from : m .address ≤ a
   pub upto : a + n ≤ m .address + m .length

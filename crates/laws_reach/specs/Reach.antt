@@ -22,8 +22,11 @@ use Rattle.rules_table.specs.declared.Table.{Table}
 use Rattle.rules_table.specs.Records.{objectAt, isDevice, isAttached, homeOf, canWrite, canRead}
 use Rattle.rules_table.specs.Good.{good}
 use Rattle.table.specs.Sound.{good-sound}
-use Rattle.rules_calls.specs.declared.Reach.{Reach}
-use Rattle.rules_calls.specs.Reach.{around, mayDo, reachChecks, reachSettle, reachOf, reachedBy, reachCall}
+use Rattle.rules_calls.specs.declared.Edit.{Edit}
+use Rattle.rules_calls.specs.Edits.{settle}
+use Rattle.rules_calls.specs.Reach.{around, mayDo, reachChecks, reachOf}
+use Rattle.rules_calls.specs.Orders.{reachedBy}
+use Rattle.rules_calls.specs.Named.{reachCall}
 use Rattle.rules_calls.specs.declared.Reached.{Reached}
 use Rattle.rules_calls.specs.Gate.{tableErrno}
 use Rattle.host_device.specs.Held.{reachIn, reach-split}
@@ -69,7 +72,7 @@ later k h x a n =
     (λ z. absurd (h .0 (sym z)), (λ z. absurd (h .1 (sym z)), (λ z. absurd (h .1 (sym z)), (λ z. absurd (h .2 (sym z)), tt))))
     (λ z. refl)
 
-settled : (c : ℕ) (r : Reach) → (c ≡ reachSettle c r .errno → c ≡ 0) → c ≡ 0
+settled : (c : ℕ) (r : Edit) → (c ≡ settle c r .errno → c ≡ 0) → c ≡ 0
 settled zero r f = refl
 settled (suc c) r f = f refl
 
@@ -85,7 +88,7 @@ module _ (t : Table) (d a n : ℕ) where
   asked-by : (write : Bool) (k : ℕ) → Later k → reachOf (t .objects) (t .mappings) d a n write .errno ≡ k → Asked t d (homeOf (objectAt (t .objects) d .kind)) a n
   asked-by write k h e =
       let x = objectAt (t .objects) d .kind in
-      let s = ap (λ (r : Reach). r .errno) (reach-split (t .objects) (t .mappings) d a n write) in
+      let s = ap (λ (r : Edit). r .errno) (reach-split (t .objects) (t .mappings) d a n write) in
       asked-of (settled (first (reachChecks x a n) 0) (reachIn a write (around (t .mappings) (homeOf x) (span a n))) (λ z. later k h x a n (z ∙ sym s ∙ e)))
 
   checks-pass : (s : ℕ) → Asked t d s a n → first (reachChecks (objectAt (t .objects) d .kind) a n) 0 ≡ 0
@@ -102,7 +105,7 @@ module _ (t : Table) (d a n : ℕ) where
 -- ---- what the mapping found has, by the errno
 
 module _ (a : ℕ) (write : Bool) where
-  in-0 : (o : Option Mapping) → reachIn a write o .errno ≡ 0 → (m : Mapping) × (o ≡ some m) × (mayDo write m ≡ true) × (reachIn a write o .address ≡ m .memory + (a - m .address))
+  in-0 : (o : Option Mapping) → reachIn a write o .errno ≡ 0 → (m : Mapping) × (o ≡ some m) × (mayDo write m ≡ true) × (reachIn a write o .value ≡ m .memory + (a - m .address))
   in-0 none e = absurd (omega (arith, e))
   in-0 (some m) e = by-test (mayDo write m) (λ t. (m, refl, t, rw t)) (λ t. absurd (omega (arith, rw t at e)))
 
@@ -164,7 +167,7 @@ module _ (t : Table) (g : good t ≡ true) (d a n : ℕ) (write : Bool) where
       let q = asked-by t d a n write 0 (λ z. omega (arith, z), λ z. omega (arith, z), λ z. omega (arith, z)) (result-none errno (sym errno-is ∙ r)) in
       let w = in-0 a write found (result-none (reachIn a write found .errno) (sym (errno-in q) ∙ r)) in
       let m = w .0 in
-      let at : y ≡ reachIn a write found .address = ap (λ (x : Reached). x .address) (sym e ∙ reach-in home q) in
+      let at : y ≡ reachIn a write found .value = ap (λ (x : Reached). x .address) (sym e ∙ reach-in home q) in
       record { space = home; asked = q; mapping = m; held = found-held t (good-sound t g) d home a n q m (w .1); right = sym (may-is write m) ∙ w .2; offset = omega (arith, at, w .3) }
 
   1-denied : reachCall t d a n write .result ≡ negsuc 0 → Denied t d a n write

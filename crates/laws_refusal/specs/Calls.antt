@@ -1,50 +1,53 @@
--- The calls that change the table or the bytes: where the result is below zero, both are as they were.
-use Prim.Native.Nat.{ℕ, _-_}
+-- The same command by command: where the result is below zero, table and bytes are as they were. No command but IOVA_RANGES writes at any refusal.
+use Prim.Native.Nat.{ℕ}
 use mathlib.Core.Path.{_≡_, ap, _∙_}
 use mathlib.Core.Bool.{false}
-use mathlib.Core.List.{List}
+use mathlib.Core.List.{List, []}
 use lib.Dec.{eqb}
 use borrow.Author.Tests.{eqb-true}
 use lib.IntN.{pos, negsuc}
 use Rattle.lists.specs.Tests.{by-test}
-use Rattle.lists.specs.Checks.{first}
-use Rattle.rangelists.specs.declared.Reserved.{Reserved}
-use Rattle.wire.specs.Fields.{field}
 use Rattle.rules_calls.specs.Results.{result}
 use Rattle.opening.specs.Signed.{result-zero, result-suc}
 use Rattle.rules_table.specs.declared.Table.{Table}
-use Rattle.rules_table.specs.Records.{objectAt, newSpace, freeObject}
-use Rattle.rules_table.specs.Charge.{freeRecord}
-use Rattle.rules_calls.specs.declared.Change.the-variants.{Put}
-use Rattle.rules_calls.specs.Answers.{replied}
-use Rattle.rules_calls.specs.Bind.{newDevice, bindEdit, bindCall, bindRule}
-use Rattle.rules_calls.specs.Attach.{attachedObject, looseObject, attachChecks, attachEdit, detachChecks, detachEdit, attachCall, detachCall}
-use Rattle.rules_calls.specs.Objects.{allocChecks, allocEdit, destroyChecks, removal, destroyEdit, allocCall, allocAnswer, allocBytes, destroyAnswer}
-use Rattle.rules_calls.specs.Allow.{areaList, withAllow, allowAnswer, allowEdit}
-use Rattle.rules_calls.specs.Ranges.{repliesTo, rangesCall, rangesResult, rangesReply, rangesWritten}
-use Rattle.rules_calls.specs.Gate.{gateErrno, tableErrno}
-use Rattle.laws_refusal.specs.Edits.{Silent, silent-accept, silent-settle, silent-placed, outcome-refused, outcomeId-refused, errno-of}
-use Rattle.edits.specs.Numbers.{allowChecksAt}
+use Rattle.rules_calls.specs.declared.Command.the-variants.{Destroy, IoasAlloc, AllowIovas, Copy, Map, Unmap}
+use Rattle.rules_calls.specs.Requests.{number}
+use Rattle.rules_calls.specs.Answers.{outcome}
+use Rattle.rules_calls.specs.Ranges.{repliesTo}
+use Rattle.rules_calls.specs.Call.{callEdit}
+use Rattle.rules_calls.specs.Named.{mapCall, mapAnswer, mapBytes, copyCall, copyAnswer, copyBytes, unmapCall, unmapAnswer, unmapBytes, allocCall, allocAnswer, allocBytes, destroyAnswer, allowAnswer, rangesCall, rangesResult, rangesReply, rangesWritten}
+use Rattle.edits.specs.Replies.{unwritten}
+use Rattle.laws_refusal.specs.Edits.{outcome-refused, errno-of}
+use Rattle.laws_refusal.specs.Silent.{silent-call}
 
 module _ (t : Table) (bytes : List ℕ) where
-  alloc-silent : Silent (allocCall t bytes)
-  unfolding allocCall allocEdit
-  alloc-silent = silent-settle (gateErrno t 0x3B81 bytes) _ (silent-settle (first (allocChecks (t .objects) (field 4 bytes 4)) 0) _ (silent-placed (freeRecord (t .objects)) newSpace))
+  -- the table, whatever the request
+  stays : (request : ℕ) (area : List ℕ) (k : ℕ) → outcome t (callEdit t request bytes area) .result ≡ negsuc k → outcome t (callEdit t request bytes area) .table ≡ t
+  stays request area k r = outcome-refused t (callEdit t request bytes area) (silent-call t request bytes area) k r
+
+  pub map-refused : (k : ℕ) → mapAnswer t bytes .result ≡ negsuc k → (mapAnswer t bytes .table ≡ t) × (mapBytes t bytes ≡ bytes)
+  unfolding mapAnswer mapBytes
+  map-refused k r = (stays (number Map) [] k r, unwritten 8 32 (mapCall t bytes .errno) (mapCall t bytes .value) bytes (errno-of t (mapCall t bytes) k r))
+
+  pub copy-refused : (k : ℕ) → copyAnswer t bytes .result ≡ negsuc k → (copyAnswer t bytes .table ≡ t) × (copyBytes t bytes ≡ bytes)
+  unfolding copyAnswer copyBytes
+  copy-refused k r = (stays (number Copy) [] k r, unwritten 8 24 (copyCall t bytes .errno) (copyCall t bytes .value) bytes (errno-of t (copyCall t bytes) k r))
+
+  pub unmap-refused : (k : ℕ) → unmapAnswer t bytes .result ≡ negsuc k → (unmapAnswer t bytes .table ≡ t) × (unmapBytes t bytes ≡ bytes)
+  unfolding unmapAnswer unmapBytes
+  unmap-refused k r = (stays (number Unmap) [] k r, unwritten 8 16 (unmapCall t bytes .errno) (unmapCall t bytes .value) bytes (errno-of t (unmapCall t bytes) k r))
 
   pub alloc-refused : (k : ℕ) → allocAnswer t bytes .result ≡ negsuc k → (allocAnswer t bytes .table ≡ t) × (allocBytes t bytes ≡ bytes)
-  unfolding allocAnswer allocBytes replied
-  alloc-refused k r = (outcome-refused t (allocCall t bytes) alloc-silent k r, by-test (eqb (allocCall t bytes .errno) 0) (λ e. absurd (errno-of t (allocCall t bytes) k r (eqb-true (allocCall t bytes .errno) 0 e))) (λ e. rw e))
+  unfolding allocAnswer allocBytes
+  alloc-refused k r = (stays (number IoasAlloc) [] k r, unwritten 4 8 (allocCall t bytes .errno) (allocCall t bytes .value) bytes (errno-of t (allocCall t bytes) k r))
 
   pub destroy-refused : (k : ℕ) → destroyAnswer t bytes .result ≡ negsuc k → destroyAnswer t bytes .table ≡ t
-  unfolding destroyAnswer destroyEdit
-  destroy-refused k r = outcome-refused t _ (silent-settle (gateErrno t 0x3B80 bytes) _ (silent-settle (first (destroyChecks (t .objects) (field 4 bytes 4)) 0) _ (silent-accept 0 (removal (objectAt (t .objects) (field 4 bytes 4) .kind) (field 4 bytes 4 - 1)) freeObject))) k r
+  unfolding destroyAnswer
+  destroy-refused k r = stays (number Destroy) [] k r
 
   pub allow-refused : (area : List ℕ) (k : ℕ) → allowAnswer t bytes area .result ≡ negsuc k → allowAnswer t bytes area .table ≡ t
-  unfolding allowAnswer allowEdit
-  allow-refused area k r =
-      outcome-refused t _
-      (silent-settle (gateErrno t 0x3B82 bytes) _ (silent-settle (first (allowChecksAt (t .objects) (field 4 bytes 4) (field 4 bytes 8) (field 4 bytes 12) area) 0) _ (silent-accept 0 (Put (field 4 bytes 4 - 1)) (withAllow (objectAt (t .objects) (field 4 bytes 4)) (areaList (field 4 bytes 8) area)))))
-      k r
+  unfolding allowAnswer
+  allow-refused area k r = stays (number AllowIovas) area k r
 
   -- IOVA_RANGES writes where it answers 0 or 90, and nowhere else
   no-reply : (area : List ℕ) → (rangesResult t bytes area ≡ pos 0 → ⊥) → (rangesResult t bytes area ≡ negsuc 89 → ⊥) → repliesTo (rangesCall t bytes area) ≡ false
@@ -56,21 +59,3 @@ module _ (t : Table) (bytes : List ℕ) where
   pub ranges-refused : (area : List ℕ) → (rangesResult t bytes area ≡ pos 0 → ⊥) → (rangesResult t bytes area ≡ negsuc 89 → ⊥) → (rangesReply t bytes area ≡ bytes) × (rangesWritten t bytes area ≡ area)
   unfolding rangesReply rangesWritten
   ranges-refused area z n = (rw (no-reply area z n), rw (no-reply area z n))
-
-module _ (t : Table) (k : ℕ) where
-  pub bind-refused : (bitmap : ℕ) (l : Reserved) → bindCall t bitmap l .result ≡ negsuc k → bindCall t bitmap l .table ≡ t
-  unfolding bindCall bindEdit
-  bind-refused bitmap l r =
-      outcomeId-refused t _ (silent-settle (tableErrno t) _ (silent-settle (first (bindRule (t .objects) bitmap l) 0) _ (silent-placed (freeRecord (t .objects)) (newDevice bitmap l)))) k r
-
-  pub attach-refused : (d s : ℕ) → attachCall t d s .result ≡ negsuc k → attachCall t d s .table ≡ t
-  unfolding attachCall attachEdit
-  attach-refused d s r =
-      outcome-refused t _
-      (silent-settle (tableErrno t) _ (silent-settle (first (attachChecks (t .objects) (t .mappings) (objectAt (t .objects) d) s) 0) _ (silent-accept 0 (Put (d - 1)) (attachedObject (objectAt (t .objects) d) s))))
-      k r
-
-  pub detach-refused : (d : ℕ) → detachCall t d .result ≡ negsuc k → detachCall t d .table ≡ t
-  unfolding detachCall detachEdit
-  detach-refused d r =
-      outcome-refused t _ (silent-settle (tableErrno t) _ (silent-settle (first (detachChecks (objectAt (t .objects) d)) 0) _ (silent-accept 0 (Put (d - 1)) (looseObject (objectAt (t .objects) d))))) k r

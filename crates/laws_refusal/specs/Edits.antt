@@ -11,7 +11,7 @@ use Rattle.rules_table.specs.declared.Table.{Table}
 use Rattle.rules_calls.specs.declared.Change.{Change}
 use Rattle.rules_calls.specs.declared.Change.the-variants.{Nothing}
 use Rattle.rules_calls.specs.declared.Edit.{Edit}
-use Rattle.rules_calls.specs.Edits.{accept, settle, placed, applied}
+use Rattle.rules_calls.specs.Edits.{accept, settle, added, applied}
 use Rattle.rules_calls.specs.Answers.{outcome, idOr, outcomeId}
 
 abbrev pub Silent : Edit → Type 0
@@ -24,16 +24,16 @@ pub silent-settle : (n : ℕ) (e : Edit) → Silent e → Silent (settle n e)
 silent-settle zero e s = s
 silent-settle (suc n) e s = λ h. refl
 
-pub silent-placed : (f : Option ℕ) (o : Object) → Silent (placed f o)
-silent-placed none o = λ h. refl
-silent-placed (some i) o = λ h. absurd (h refl)
+pub silent-added : (f : Option ℕ) (o : Object) → Silent (added f o)
+silent-added none o = λ h. refl
+silent-added (some i) o = λ h. absurd (h refl)
 
 -- ---- a result below zero is an errno
 
 negative : (n k : ℕ) → result n ≡ negsuc k → n ≡ 0 → ⊥
 negative n k e z = omega (arith, z, result-errno n k e)
 
-negative-id : (n id k : ℕ) → idOr n id ≡ negsuc k → n ≡ 0 → ⊥
+pub negative-id : (n id k : ℕ) → idOr n id ≡ negsuc k → n ≡ 0 → ⊥
 negative-id zero id k e z = let y : _≡_ {A = ℕ} 0 1 = cc in omega (arith, y)
 negative-id (suc n) id k e z = omega (arith, z)
 
@@ -53,3 +53,8 @@ module _ (t : Table) (e : Edit) (s : Silent e) where
 pub errno-of : (t : Table) (e : Edit) (k : ℕ) → outcome t e .result ≡ negsuc k → e .errno ≡ 0 → ⊥
 unfolding outcome
 errno-of t e k r = negative (e .errno) k r
+
+-- and it is not 90 where the result is another
+pub errno-90 : (t : Table) (e : Edit) (k : ℕ) → outcome t e .result ≡ negsuc k → (k ≡ 89 → ⊥) → e .errno ≡ 90 → ⊥
+unfolding outcome
+errno-90 t e k r n z = n (omega (arith, z, result-errno (e .errno) k r))

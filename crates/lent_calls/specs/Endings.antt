@@ -23,13 +23,14 @@ use Rattle.rules_calls.specs.Orders.{hostEdit}
 use Rattle.iommufd.specs.Deciding.{firstId, secondId, Decided}
 use Rattle.iommufd.proofs.Dispatching.{refused}
 use Rattle.rules_table.specs.declared.Head.{Head}
-use Rattle.rules_table.specs.Layout.{decoded, tableOf, withRecord}
-use Rattle.rules_lent.specs.Records.{stored}
+use Rattle.rules_table.specs.Layout.{decoded, tableOf}
+use Rattle.lent_head.specs.Head.{withRecord}
+use Rattle.lent_records.specs.Records.{stored}
 use Rattle.lent_calls.specs.declared.Writes.{Writes}
 use Rattle.rules_lent.specs.declared.Number.{Number}
 use Rattle.lent_calls.specs.Lent.{writesOf}
 use Rattle.rules_lent.specs.Lent.{headAfter, recordsAfter}
-use Rattle.lent_calls.specs.Applied.{head-written, refused-kept}
+use Rattle.lent_calls.specs.Applied.{head-written, records-written, refused-kept}
 use Rattle.rules_lent.specs.Entries.{LentCall, Preview, hostResult, LentHost, toldBy, LentTold}
 
 module _ (h : Head) (ms : List Mapping) where
@@ -49,8 +50,8 @@ module _ (h : Head) (ms : List Mapping) where
     records = rw (short-edit o n) (sym (refused-kept 117 h ms .1));
   }
 
-  pub short-told : (o : Order) → (length ms ≡ 128 → ⊥) → LentTold h ms o (record { result = negsuc 116; value = 0 })
-  short-told o n = record { number = rw (short-edit o n) (ap (λ (z : ℤ). record { result = z; value = 0 }) (sym (result-suc 116))) }
+  pub short-told : (o : Order) → (length ms ≡ 128 → ⊥) → LentTold h ms o (record { result = negsuc 116; value = 0 }) h ms
+  short-told o n = record { number = rw (short-edit o n) (ap (λ (z : ℤ). record { result = z; value = 0 }) (sym (result-suc 116))); head = refl; records = refl }
 
   module _ (request : ℕ) (cmd area : List ℕ) where
     short-decided : (length ms ≡ 128 → ⊥) → Decided (tableOf h ms) request cmd area (refuse 117) cmd area
@@ -68,8 +69,8 @@ module _ (h : Head) (ms : List Mapping) where
           ranges = d .ranges;
         }
 
-    pub short-preview : (length ms ≡ 128 → ⊥) → Preview h ms request cmd area (negsuc 116) cmd area
-    short-preview n = let d = short-decided n in record { result = rw (← d .edit) (sym (result-suc 116)); reply = d .reply; ranges = d .ranges }
+    pub short-preview : (length ms ≡ 128 → ⊥) → Preview h ms request cmd area (negsuc 116) h ms cmd area
+    short-preview n = let d = short-decided n in record { result = rw (← d .edit) (sym (result-suc 116)); head = refl; records = refl; reply = d .reply; ranges = d .ranges }
 
   -- the digest of a head is one of some 32 objects
   pub digested : (a b : ℕ) (d : Digest) → DigestOf (map decoded (h .objects)) a b d → length (h .objects) ≡ 32 → Digested d
@@ -83,15 +84,14 @@ module _ (h : Head) (ms : List Mapping) where
     host-edit = decided (map decoded (h .objects)) (length-map (h .objects) decoded ∙ many) of ∙ rw at
 
     pub host-done : (w : Writes) (r : ℤ) (h′ : Head) (ms′ : List Mapping) → w ≡ writesOf e → h′ ≡ withRecord h (w .place) (w .object) → ms′ ≡ stored (w .records) ms → r ≡ hostResult e → LentHost h ms o r h′ ms′
-    unfolding recordsAfter writesOf
     host-done w r h′ ms′ ew eh em er = record {
       result = er ∙ ap hostResult host-edit;
       head = eh ∙ rw ew (head-written h many e) ∙ ap (λ (x : Edit). headAfter x h) host-edit;
-      records = em ∙ rw (ew, host-edit);
+      records = em ∙ rw ew (records-written ms e) ∙ ap (λ (x : Edit). recordsAfter x ms) host-edit;
     }
 
-    pub told-done : (n : Number) → n ≡ toldBy e → LentTold h ms o n
-    told-done n en = record { number = en ∙ ap toldBy host-edit }
+    pub told-done : (n : Number) → n ≡ toldBy e → LentTold h ms o n h ms
+    told-done n en = record { number = en ∙ ap toldBy host-edit; head = refl; records = refl }
 
   module _ (request : ℕ) (cmd area : List ℕ) (a b : ℕ) (d : Digest) (limit : ℕ) (e : Edit) (cmd′ area′ : List ℕ) (ea : a ≡ firstId request cmd) (eb : b ≡ secondId cmd)
       (of : DigestOf (map decoded (h .objects)) a b d) (many : length (h .objects) ≡ 32) (at : limit ≡ h .limit)
@@ -102,16 +102,15 @@ module _ (h : Head) (ms : List Mapping) where
 
     pub call-done : (w : Writes) (r : ℤ) (h′ : Head) (ms′ : List Mapping) → w ≡ writesOf e → h′ ≡ withRecord h (w .place) (w .object) → ms′ ≡ stored (w .records) ms → r ≡ result (e .errno)
         → LentCall h ms request cmd area r h′ ms′ cmd′ area′
-    unfolding recordsAfter writesOf
     call-done w r h′ ms′ ew eh em er =
         let c = call-decided in
         record {
           result = er ∙ ap (λ (x : Edit). result (x .errno)) (c .edit);
           head = eh ∙ rw ew (head-written h many e) ∙ ap (λ (x : Edit). headAfter x h) (c .edit);
-          records = em ∙ rw (ew, c .edit);
+          records = em ∙ rw ew (records-written ms e) ∙ ap (λ (x : Edit). recordsAfter x ms) (c .edit);
           reply = c .reply;
           ranges = c .ranges;
         }
 
-    pub preview-done : (r : ℤ) → r ≡ result (e .errno) → Preview h ms request cmd area r cmd′ area′
-    preview-done r er = let c = call-decided in record { result = er ∙ ap (λ (x : Edit). result (x .errno)) (c .edit); reply = c .reply; ranges = c .ranges }
+    pub preview-done : (r : ℤ) → r ≡ result (e .errno) → Preview h ms request cmd area r h ms cmd′ area′
+    preview-done r er = let c = call-decided in record { result = er ∙ ap (λ (x : Edit). result (x .errno)) (c .edit); head = refl; records = refl; reply = c .reply; ranges = c .ranges }

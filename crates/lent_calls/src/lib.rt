@@ -3,22 +3,22 @@ ghost use mathlib.Core.List.{List, map};
 ghost use mathlib.Core.Path.{_≡_};
 ghost use lib.ListN.{length};
 ghost use Rattle.rules_table.specs.declared.Object.{Object};
-ghost use Rattle.rules_table.specs.Layout.{decoded, withRecord};
-ghost use Rattle.rules_lent.specs.Records.{stored};
+ghost use Rattle.rules_table.specs.Layout.{decoded};
+ghost use Rattle.lent_head.specs.Head.{withRecord};
+ghost use Rattle.lent_records.specs.Records.{stored};
 ghost use Rattle.digests.specs.Digest.{DigestOf, Digested};
 ghost use Rattle.rules_calls.specs.Gate.{tableWith};
 ghost use Rattle.rules_calls.specs.Orders.{hostEdit};
 ghost use Rattle.iommufd.specs.Deciding.{firstId, secondId, Decided};
-ghost use Rattle.lent_calls.specs.Lent.{placeOf, objectOf, writesOf};
-ghost use Rattle.rules_lent.specs.Lent.{recordsOf};
+ghost use Rattle.lent_calls.specs.Lent.{placeOf, objectOf, recordsOf, writesOf};
 ghost use Rattle.rules_lent.specs.Entries.{LentHost, LentTold, hostResult, toldBy};
 use digests::Digest;
+use lent_records::Records;
 use ranges::Range;
 use rules_calls::Change;
 use rules_calls::Edit;
 use rules_calls::Order;
 use rules_lent::Number;
-use rules_lent::Records;
 use rules_table::Head;
 use rules_table::Mapping;
 use rules_table::Object;
@@ -172,7 +172,7 @@ pub fn change(h: &mut Head, ms: &mut [Mapping], o: Order) -> i32
 
 // Reach and charge.
 pub fn look(h: &Head, ms: &[Mapping], o: Order) -> Number
-    ensures { λ n. ⌜ LentTold (now (h .entry)) (now (ms .entry)) o n ⌝ }
+    ensures { λ n. ⌜ LentTold (now (h .entry)) (now (ms .entry)) o n (now (h .exit)) (now (ms .exit)) ⌝ }
 {
     if ms.len() != RECORDS {
         return Number {

@@ -1,6 +1,6 @@
 // The head of a table in the caller's memory, behind few thin functions: its records are read, and one is written in place.
 ghost use mathlib.Core.Path.{_≡_};
-ghost use Rattle.rules_table.specs.Layout.{withRecord};
+ghost use Rattle.lent_head.specs.Head.{withRecord};
 use rules_table::Head;
 use rules_table::RawObject;
 

@@ -7,9 +7,9 @@ use native.Mathlib.Omega.{arith}
 use lib.ListN.{length, getD, replicate}
 use Rattle.rules_table.specs.declared.Mapping.{Mapping}
 use Rattle.rules_table.specs.Records.{zeroMapping}
-use Rattle.rules_lent.specs.declared.Records.{Records}
-use Rattle.rules_lent.specs.declared.Records.the-variants.{Wipe}
-use Rattle.rules_lent.specs.Records.{changes, becomes, nextRecord, storedFrom, stored}
+use Rattle.lent_records.specs.declared.Records.{Records}
+use Rattle.lent_records.specs.declared.Records.the-variants.{Wipe}
+use Rattle.lent_records.specs.Records.{changes, becomes, nextRecord, storedFrom, stored}
 
 -- ---- laws
 

@@ -1,3 +1,4 @@
 -- The records of a table in the caller's memory.
+pub mod Records
 pub mod Lent
 pub mod Stored

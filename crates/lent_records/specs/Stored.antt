@@ -1,5 +1,5 @@
 -- What is stored, in the words of the tables: nothing, one record, or the records that are released.
-use Prim.Native.Nat.{ℕ, zero, suc, _+_, _-_, _<_}
+use Prim.Native.Nat.{ℕ, zero, suc, _+_, _<_}
 use mathlib.Core.Path.{_≡_, refl, ap, _∙_}
 use mathlib.Core.List.{List, [], _∷_, map}
 use native.Mathlib.Omega.{arith}
@@ -8,8 +8,8 @@ use borrow.Author.Tests.{eq-eqb, ne-eqb}
 use Rattle.ranges.specs.declared.Range.{Range}
 use Rattle.rules_table.specs.declared.Mapping.{Mapping}
 use Rattle.rules_table.specs.Records.{within, release}
-use Rattle.rules_lent.specs.declared.Records.the-variants.{Keep, Put, Clear}
-use Rattle.rules_lent.specs.Records.{nextRecord, storedFrom, stored}
+use Rattle.lent_records.specs.declared.Records.the-variants.{Keep, Put, Clear}
+use Rattle.lent_records.specs.Records.{nextRecord, storedFrom, stored}
 
 keep-from : (k : ℕ) (ms : List Mapping) → storedFrom Keep k ms ≡ ms
 unfolding storedFrom nextRecord

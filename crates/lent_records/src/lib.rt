@@ -1,9 +1,20 @@
 // The mapping records in the caller's memory, behind two thin functions: they are read whole, and only those that a call changes are written, in place.
 ghost use mathlib.Core.Path.{_≡_};
 ghost use lib.ListN.{length};
-ghost use Rattle.rules_lent.specs.Records.{changes, becomes, stored};
-use rules_lent::Records;
+ghost use Rattle.lent_records.specs.Records.{changes, becomes, stored};
+use ranges::Range;
 use rules_table::Mapping;
+
+// What happens to the mapping records.
+pub enum Records {
+    Keep,
+    // The record at a place becomes this mapping.
+    Put(usize, Mapping),
+    // The mappings of a space that lie wholly inside a range are released.
+    Clear(u32, Range),
+    // Every record is released.
+    Wipe,
+}
 
 // Whether the record m at place k is written.
 pub fn is_changed(c: Records, k: usize, m: Mapping) -> bool

@@ -6,7 +6,7 @@ use mathlib.Core.List.{List, [], _∷_}
 use native.Mathlib.Omega.{arith}
 use lib.ListN.{length, getD}
 use Rattle.lists.specs.Tests.{by-test, contrary, onlyIf, onlyIf-split, or-not-left, or-not-right, or-neither}
-use Rattle.lists.specs.Search.{any, any-none, any-at, any-place}
+use Rattle.lists.specs.Search.{any, any-none, any-at, any-slot}
 use Rattle.lists.specs.Pairs.{clashes}
 use Rattle.lists.specs.Sums.{countOf, sumOf-cons, sumOf-nil}
 
@@ -58,7 +58,7 @@ module _ {A : Type 0} where
     where
       twice : any (r x) xs ≡ true → ⊥
       twice t =
-          let w = any-place (r x) xs x t in
+          let w = any-slot (r x) xs x t in
           let k = h x (getD xs (w .0) x) (w .2) in
           let one = countOf-at (p (k .0)) xs x (w .0) (w .1) (k .2) in
           let two : countOf (p (k .0)) (x ∷ xs) ≡ 1 + countOf (p (k .0)) xs = countOf-cons (p (k .0)) x xs ∙ rw (k .1) refl in

@@ -7,7 +7,7 @@ use native.Mathlib.Nat.{le-of-suc-le-suc, not-suc-le-zero}
 use native.Mathlib.Omega.{arith}
 use lib.ListN.{length, getD, drop, drop-of-length-le}
 use Rattle.lists.specs.Tests.{by-test, contrary, or-not-left, or-not-right, or-other}
-use Rattle.lists.specs.Search.{any, any-false-at, any-place, drop-turn}
+use Rattle.lists.specs.Search.{any, any-false-at, any-slot, drop-turn}
 
 module _ {A : Type 0} where
   unfoldable pub clashes : (A → A → Bool) → List A → Bool
@@ -27,14 +27,14 @@ module _ {A : Type 0} where
   clashes-false-at p (x ∷ xs) d (suc i) (suc j) h k e = clashes-false-at p xs d i j (le-of-suc-le-suc h) (le-of-suc-le-suc k) (or-not-right (any (p x) xs) (clashes p xs) e)
 
   -- where some clash, there are two places that do
-  pub clashes-place : (p : A → A → Bool) (xs : List A) (d : A) → clashes p xs ≡ true
+  pub clashes-slot : (p : A → A → Bool) (xs : List A) (d : A) → clashes p xs ≡ true
       → (i : ℕ) × (j : ℕ) × (i < j) × (j < length xs) × (p (getD xs i d) (getD xs j d) ≡ true)
   unfolding clashes
-  clashes-place p [] d e = contrary false e refl
-  clashes-place p (x ∷ xs) d e =
+  clashes-slot p [] d e = contrary false e refl
+  clashes-slot p (x ∷ xs) d e =
       by-test (any (p x) xs)
-      (λ t. let r = any-place (p x) xs d t in (0, suc (r .0), omega arith, omega (arith, r .1), r .2))
-      (λ t. let r = clashes-place p xs d (or-other (any (p x) xs) (clashes p xs) e t) in (suc (r .0), suc (r .1), omega (arith, r .2), omega (arith, r .3), r .4))
+      (λ t. let r = any-slot (p x) xs d t in (0, suc (r .0), omega arith, omega (arith, r .1), r .2))
+      (λ t. let r = clashes-slot p xs d (or-other (any (p x) xs) (clashes p xs) e t) in (suc (r .0), suc (r .1), omega (arith, r .2), omega (arith, r .3), r .4))
 
   module _ (p : A → A → Bool) (xs : List A) (i : ℕ) {k : Bool} (v : clashes p (drop i xs) ≡ k) where
     pub clashes-found : (d : A) → i < length xs → any (p (getD xs i d)) (drop (i + 1) xs) ≡ true → true ≡ k

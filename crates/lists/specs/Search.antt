@@ -64,13 +64,13 @@ module _ {A : Type 0} where
   any-false-at p xs d i h e = by-test (p (getD xs i d)) (λ t. contrary (any p xs) (any-at p xs d i h t) e) (λ t. t)
 
   -- what passes has a place
-  pub any-place : (p : A → Bool) (xs : List A) (d : A) → any p xs ≡ true → (i : ℕ) × (i < length xs) × (p (getD xs i d) ≡ true)
+  pub any-slot : (p : A → Bool) (xs : List A) (d : A) → any p xs ≡ true → (i : ℕ) × (i < length xs) × (p (getD xs i d) ≡ true)
   unfolding any
-  any-place p [] d e = contrary false e refl
-  any-place p (x ∷ xs) d e =
+  any-slot p [] d e = contrary false e refl
+  any-slot p (x ∷ xs) d e =
       by-test (p x)
       (λ t. (0, omega arith, t))
-      (λ t. let r = any-place p xs d (or-other (p x) (any p xs) e t) in (suc (r .0), omega (arith, r .1), r .2))
+      (λ t. let r = any-slot p xs d (or-other (p x) (any p xs) e t) in (suc (r .0), omega (arith, r .1), r .2))
 
   module _ (p : A → Bool) (xs : List A) (i : ℕ) {k : Bool} (v : any p (drop i xs) ≡ k) where
     pub any-found : (d : A) → i < length xs → p (getD xs i d) ≡ true → true ≡ k
@@ -169,13 +169,13 @@ module _ {A : Type 0} where
       (λ t. find-some p xs a (sym (find-cons-false p x xs t) ∙ e))
 
   -- and has a place
-  pub find-place : (p : A → Bool) (xs : List A) (d a : A) → find p xs ≡ some a → (i : ℕ) × (i < length xs) × (getD xs i d ≡ a)
+  pub find-slot : (p : A → Bool) (xs : List A) (d a : A) → find p xs ≡ some a → (i : ℕ) × (i < length xs) × (getD xs i d ≡ a)
   unfolding find
-  find-place p [] d a e = let z : _≡_ {A = ℕ} 0 1 = cc in absurd (omega arith)
-  find-place p (x ∷ xs) d a e =
+  find-slot p [] d a e = let z : _≡_ {A = ℕ} 0 1 = cc in absurd (omega arith)
+  find-slot p (x ∷ xs) d a e =
       by-test (p x)
       (λ t. let f = find-cons-true p x xs t in let same : x ≡ a = cc in (0, omega arith, same))
-      (λ t. let r = find-place p xs d a (sym (find-cons-false p x xs t) ∙ e) in (suc (r .0), omega (arith, r .1), r .2))
+      (λ t. let r = find-slot p xs d a (sym (find-cons-false p x xs t) ∙ e) in (suc (r .0), omega (arith, r .1), r .2))
 
   -- and is an element: what no element passes, it does not
   pub find-some-any : (p q : A → Bool) (xs : List A) (a : A) → find p xs ≡ some a → any q xs ≡ false → q a ≡ false

@@ -7,7 +7,7 @@ use mathlib.Core.Option.{some}
 use native.Mathlib.Nat.{le-of-suc-le-suc, not-suc-le-zero, suc-mul}
 use native.Mathlib.Omega.{arith}
 use lib.Dec.{ltb}
-use lib.ListN.{length, getD, drop, replicate}
+use lib.ListN.{length, getD, replicate}
 use borrow.Author.Tests.{ltb-true, lt-ltb}
 use Rattle.lists.specs.Tests.{by-test, onlyIf, onlyIf-true, onlyIf-zero}
 use Rattle.lists.specs.Search.{any, any-at, find, find-cons-true, find-cons-false}

@@ -4,7 +4,7 @@ use mathlib.Core.Path.{_≡_, refl, sym, ap, _∙_}
 use mathlib.Core.Bool.{Bool, true, false, not, _&&_, cond}
 use mathlib.Core.List.{List}
 use native.Mathlib.Omega.{arith}
-use lib.Dec.{leb, eqb}
+use lib.Dec.{leb}
 use lib.ListN.{length, getD, List·getD-eq-default}
 use borrow.Author.Tests.{leb-true, leb-false, le-leb}
 use Rattle.lists.specs.Tests.{by-test, contrary, and-not-right}
@@ -16,9 +16,9 @@ use Rattle.rules_table.specs.declared.Kind.the-variants.{Free, Space, Device}
 use Rattle.rules_table.specs.declared.Object.{Object}
 use Rattle.rules_table.specs.Records.{isSpace, zeroObject, freeObject, objectAt, spaceAt}
 use Rattle.rules_table.specs.Fits.{deviceFits, listFits}
-use Rattle.rules_table.specs.Good.{kindNames, deviceBy, listBy, listsTouch, listClearBy, zeroBy, deviceNames, deviceValid, listValid, listClear, objectZero, reservedRest, allowRest, noDevice, noList}
-use Rattle.table.specs.Checked.{objectOk}
-use Rattle.table.specs.Replaced.{objectAt-place, objectAt-past}
+use Rattle.rules_table.specs.Good.{listsTouch, deviceNames, deviceValid, listValid, listClear, objectZero, reservedRest, allowRest, noDevice, noList}
+use Rattle.table.specs.Checked.{objectOk, objectBy}
+use Rattle.table.specs.Replaced.{objectAt-slot, objectAt-past}
 
 -- the device o may be attached to the record h
 unfoldable pub homeFits : Object → Object → Bool
@@ -48,13 +48,13 @@ namedPlace (Device a) = placeBy a
 -- ---- the record with an id
 
 -- its kind is read as a loop reads it
-pub spaceAt-place : (os : List Object) (i : ℕ) → spaceAt os (1 + i) ≡ isSpace (getD os i zeroObject .kind)
+pub spaceAt-slot : (os : List Object) (i : ℕ) → spaceAt os (1 + i) ≡ isSpace (getD os i zeroObject .kind)
 unfolding spaceAt
-spaceAt-place os i =
+spaceAt-slot os i =
     let e : 1 + i ≡ suc i = omega arith in
     rw e (by-test (leb (length os) i)
     (λ t. let h = leb-true (length os) i t in ap (λ (o : Object). isSpace (o .kind)) (objectAt-past os (suc i) (omega arith)) ∙ ap (λ (o : Object). isSpace (o .kind)) (sym (List·getD-eq-default os zeroObject h)))
-    (λ t. ap (λ (o : Object). isSpace (o .kind)) (objectAt-place os i zeroObject (leb-false (length os) i t))))
+    (λ t. ap (λ (o : Object). isSpace (o .kind)) (objectAt-slot os i zeroObject (leb-false (length os) i t))))
 
 pub spaceAt-past : (os : List Object) (s : ℕ) → length os < s → spaceAt os s ≡ false
 unfolding spaceAt
@@ -83,7 +83,7 @@ unfolding objectAt
 no-record os = refl
 
 judged-by : (os : List Object) (o : Object) (k : Kind) → length os ≡ 32
-    → fitsBy (getD os (namedPlace k) zeroObject) o k ≡ (kindNames os k && (deviceBy o k && (listBy o k && (listClearBy os o k && zeroBy o k))))
+    → fitsBy (getD os (namedPlace k) zeroObject) o k ≡ objectBy os o k
 unfolding homeFits spaceAt
 judged-by os o Free e = refl
 judged-by os o Space e = refl
@@ -94,7 +94,7 @@ judged-by os o (Device (Attached (suc i))) e =
     by-test (leb (suc i) 32)
     (λ t. let p : suc i - 1 ≡ i = omega arith in
     let h = leb-true (suc i) 32 t in
-    rw (le-leb 1 (suc i) (omega arith), t, p, objectAt-place os i zeroObject (omega arith))
+    rw (le-leb 1 (suc i) (omega arith), t, p, objectAt-slot os i zeroObject (omega arith))
     (regroup (isSpace (getD os i zeroObject .kind)) (deviceFits o) (not (listsTouch (reserved (o .reserved)) (allowed (getD os i zeroObject .allow)))) (reservedRest o && noList o)))
     (λ t. let h = leb-false (suc i) 32 t in
     rw (le-leb 1 (suc i) (omega arith), t, objectAt-past os (suc i) (omega arith)) (and-not-right (deviceFits o) false refl))

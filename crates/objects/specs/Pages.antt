@@ -19,9 +19,9 @@ use Rattle.rules_table.specs.declared.Kind.the-variants.{Free, Space, Device}
 use Rattle.rules_table.specs.declared.Object.{Object}
 use Rattle.rules_table.specs.Records.{isSpace, attachedTo, zeroObject, objectAt, spaceAt}
 use Rattle.rules_table.specs.Spaces.{pageFor, alignment}
-use Rattle.rules_table.specs.Good.{kindNames, deviceNames, deviceValid, listValid, listClear, objectZero}
-use Rattle.table.specs.Checked.{objectOk, objectsOk, pageAt}
-use Rattle.objects.specs.Judged.{spaceAt-past, spaceAt-place, spaceAt-pos, spaceAt-upto}
+use Rattle.rules_table.specs.Good.{deviceNames, deviceValid, listValid, listClear, objectZero}
+use Rattle.table.specs.Checked.{objectOk, objectsOk, pageAt, kindNames}
+use Rattle.objects.specs.Judged.{spaceAt-past, spaceAt-slot, spaceAt-pos, spaceAt-upto}
 
 -- the pages of a table's spaces, by their ids
 pub record Pages (os : List Object) (pages : List ℕ) : Type 0 where
@@ -129,7 +129,7 @@ module _ (os : List Object) (m : length os ≡ 32) where
   asked-some (suc j) e =
       let l = spaceAt-upto os (suc j) e in
       let d : 1 + j ≡ suc j = omega arith in
-      omega (arith, asked-at (suc j) 1 os j (omega arith), ap (λ (n : ℕ). asks (suc j) n (getD os j zeroObject)) d ∙ asks-space (suc j) (getD os j zeroObject .bitmap) (getD os j zeroObject .kind) (sym (spaceAt-place os j) ∙ rw d e))
+      omega (arith, asked-at (suc j) 1 os j (omega arith), ap (λ (n : ℕ). asks (suc j) n (getD os j zeroObject)) d ∙ asks-space (suc j) (getD os j zeroObject .bitmap) (getD os j zeroObject .kind) (sym (spaceAt-slot os j) ∙ rw d e))
 
   names : objectsOk os ≡ true → (j : ℕ) → j < length os → kindNames os (getD os j zeroObject .kind) ≡ true
   unfolding objectsOk objectOk deviceNames
@@ -140,7 +140,7 @@ module _ (os : List Object) (m : length os ≡ 32) where
   asked-else : objectsOk os ≡ true → (s : ℕ) → spaceAt os s ≡ false → asked s 1 os ≡ 0
   unfolding asks
   asked-else good s e =
-      asked-none s 1 os (λ j l. asks-else os s (1 + j) (getD os j zeroObject .bitmap) (getD os j zeroObject .kind) m e (names good j l) (λ f. spaceAt-place os j ∙ f))
+      asked-none s 1 os (λ j l. asks-else os s (1 + j) (getD os j zeroObject .bitmap) (getD os j zeroObject .kind) m e (names good j l) (λ f. spaceAt-slot os j ∙ f))
 
   pub asked-page : objectsOk os ≡ true → (s : ℕ) → s < 33 → asked s 1 os ≡ pageAt os s
   unfolding pageAt alignment

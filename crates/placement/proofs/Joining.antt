@@ -15,7 +15,7 @@ use Rattle.ranges.specs.declared.Range.{Range}
 use Rattle.ranges.specs.Ranges.{U64MAX, range, inside, lastOf, lastOf-max, span}
 use Rattle.alignment.specs.declared.Spot.{Spot}
 use Rattle.alignment.specs.declared.Spot.the-variants.{Nowhere, At}
-use Rattle.alignment.specs.Multiples.{Lowest, lowest-unique}
+use Rattle.alignment.specs.Multiples.{Lowest, lowest-unique, spotOf}
 use Rattle.rangelists.specs.Listed.{listed, allowed, length-listed, getD-listed, zeroRange}
 use Rattle.rangelists.specs.declared.Allowed.{Allowed}
 use Rattle.placement.specs.declared.Blocked.{Blocked}
@@ -69,7 +69,7 @@ module _ (a n low : ℕ) (rs : List Range) where
   under : (ps qs : List Range) (x : ℕ) → Candidate a n low rs ps x → permits qs (span x n) ≡ true → Candidate a n low rs qs x
   under ps qs x c e = record { exact = c .exact; from = c .from; ends = c .ends; clear = c .clear; permitted = e }
 
-  lowest-joined : (w u : Range) (us : List Range) → lowerOf (placeOf a n low rs (w ∷ [])) (placeOf a n low rs (u ∷ us)) ≡ placeOf a n low rs (w ∷ u ∷ us)
+  lowest-joined : (w u : Range) (us : List Range) → lowerOf (spotOf (placeOf a n low rs (w ∷ []))) (spotOf (placeOf a n low rs (u ∷ us))) ≡ spotOf (placeOf a n low rs (w ∷ u ∷ us))
   lowest-joined w u us =
       lowest-unique (Candidate a n low rs (w ∷ u ∷ us)) _ _
       (lowest-same
@@ -77,14 +77,14 @@ module _ (a n low : ℕ) (rs : List Range) where
       (Candidate a n low rs (w ∷ u ∷ us))
       (λ x p. ⊎-elim (λ c. under (w ∷ []) (w ∷ u ∷ us) x c (permits-head w u us (span x n) (c .permitted))) (λ c. under (u ∷ us) (w ∷ u ∷ us) x c (permits-tail w u us (span x n) (c .permitted))) p)
       (λ x c. ⊎-elim (λ e. inl (under (w ∷ u ∷ us) (w ∷ []) x c e)) (λ e. inr (under (w ∷ u ∷ us) (u ∷ us) x c e)) (permits-either w u us (span x n) (c .permitted)))
-      (lowerOf (placeOf a n low rs (w ∷ [])) (placeOf a n low rs (u ∷ us)))
-      (lowest-either (Candidate a n low rs (w ∷ [])) (Candidate a n low rs (u ∷ us)) (placeOf a n low rs (w ∷ [])) (placeOf a n low rs (u ∷ us)) (place-lowest a n low rs (w ∷ [])) (place-lowest a n low rs (u ∷ us))))
+      (lowerOf (spotOf (placeOf a n low rs (w ∷ []))) (spotOf (placeOf a n low rs (u ∷ us))))
+      (lowest-either (Candidate a n low rs (w ∷ [])) (Candidate a n low rs (u ∷ us)) (spotOf (placeOf a n low rs (w ∷ []))) (spotOf (placeOf a n low rs (u ∷ us))) (place-lowest a n low rs (w ∷ [])) (place-lowest a n low rs (u ∷ us))))
       (place-lowest a n low rs (w ∷ u ∷ us))
 
-  windows-listed : (w : Range) (ws : List Range) → inWindows a n low rs (w ∷ ws) ≡ placeOf a n low rs (w ∷ ws)
+  windows-listed : (w : Range) (ws : List Range) → inWindows a n low rs (w ∷ ws) ≡ spotOf (placeOf a n low rs (w ∷ ws))
   unfolding inWindows
-  windows-listed w [] = lower-nowhere (placeOf a n low rs (w ∷ []))
-  windows-listed w (u ∷ us) = ap (lowerOf (placeOf a n low rs (w ∷ []))) (windows-listed u us) ∙ lowest-joined w u us
+  windows-listed w [] = lower-nowhere (spotOf (placeOf a n low rs (w ∷ [])))
+  windows-listed w (u ∷ us) = ap (lowerOf (spotOf (placeOf a n low rs (w ∷ [])))) (windows-listed u us) ∙ lowest-joined w u us
 
   -- without an allow list the window holds every address
   permits-all : (x : ℕ) → permits (range 0 U64MAX ∷ []) (span x n) ≡ true
@@ -95,13 +95,13 @@ module _ (a n low : ℕ) (rs : List Range) where
   unfolding permits
   permits-free r = refl
 
-  windows-open : placeOf a n low rs (range 0 U64MAX ∷ []) ≡ placeOf a n low rs []
+  windows-open : spotOf (placeOf a n low rs (range 0 U64MAX ∷ [])) ≡ spotOf (placeOf a n low rs [])
   windows-open =
       lowest-unique (Candidate a n low rs []) _ _
       (lowest-same (Candidate a n low rs (range 0 U64MAX ∷ [])) (Candidate a n low rs [])
       (λ x c. under (range 0 U64MAX ∷ []) [] x c (permits-free (span x n)))
       (λ x c. under [] (range 0 U64MAX ∷ []) x c (permits-all x))
-      (placeOf a n low rs (range 0 U64MAX ∷ []))
+      (spotOf (placeOf a n low rs (range 0 U64MAX ∷ [])))
       (place-lowest a n low rs (range 0 U64MAX ∷ [])))
       (place-lowest a n low rs [])
 
@@ -109,7 +109,7 @@ module _ (a n low : ℕ) (rs : List Range) where
   unfolding inWindows
   windows-nil = refl
 
-  windows-cons : (w : Range) (ws : List Range) → inWindows a n low rs (w ∷ ws) ≡ lowerOf (placeOf a n low rs (w ∷ [])) (inWindows a n low rs ws)
+  windows-cons : (w : Range) (ws : List Range) → inWindows a n low rs (w ∷ ws) ≡ lowerOf (spotOf (placeOf a n low rs (w ∷ []))) (inWindows a n low rs ws)
   unfolding inWindows
   windows-cons w ws = refl
 
@@ -128,14 +128,14 @@ module _ (a size low : ℕ) (rs : List Range) (n m : ℕ) (ss ls : List ℕ) (hs
   pub join-small : n ≤ 256 → m ≤ 8 → jumps ≤ 2048
   join-small h k = omega (arith, v .few, mul-le-mul-right {m = i} {n = 8} n (omega (arith, v .upto)))
 
-  pub join-on : (s t : Spot) (j : ℕ) → i < m → (s ≡ placeOf a size low rs (range (getD ss i 0) (getD ls i 0) ∷ [])) × (j ≤ n) → t ≡ lowerOf best s → Joined a size low rs (listed m ss ls) n m t (jumps + j) (i + 1)
+  pub join-on : (s t : Spot) (j : ℕ) → i < m → (s ≡ spotOf (placeOf a size low rs (range (getD ss i 0) (getD ls i 0) ∷ []))) × (j ≤ n) → t ≡ lowerOf best s → Joined a size low rs (listed m ss ls) n m t (jumps + j) (i + 1)
   join-on s t j h e f = record {
-    same = rw (f, e .0) (lower-assoc best (placeOf a size low rs (range (getD ss i 0) (getD ls i 0) ∷ [])) (inWindows a size low rs (drop (i + 1) (listed m ss ls))) ∙ ap (lowerOf best) (sym left) ∙ v .same);
+    same = rw (f, e .0) (lower-assoc best (spotOf (placeOf a size low rs (range (getD ss i 0) (getD ls i 0) ∷ []))) (inWindows a size low rs (drop (i + 1) (listed m ss ls))) ∙ ap (lowerOf best) (sym left) ∙ v .same);
     upto = omega arith;
     few = omega (arith, v .few, e .1, add-mul i 1 n, one-mul n);
   }
     where
-      left : inWindows a size low rs (drop i (listed m ss ls)) ≡ lowerOf (placeOf a size low rs (range (getD ss i 0) (getD ls i 0) ∷ [])) (inWindows a size low rs (drop (i + 1) (listed m ss ls)))
+      left : inWindows a size low rs (drop i (listed m ss ls)) ≡ lowerOf (spotOf (placeOf a size low rs (range (getD ss i 0) (getD ls i 0) ∷ []))) (inWindows a size low rs (drop (i + 1) (listed m ss ls)))
       left =
           ap (inWindows a size low rs) (drop-turn (listed m ss ls) zeroRange i (rw (length-listed m ss ls hs hl) h))
           ∙ windows-cons a size low rs (getD (listed m ss ls) i zeroRange) (drop (i + 1) (listed m ss ls))
@@ -158,10 +158,10 @@ none-listed (q ∷ qs) e = absurd (omega arith)
 
 -- an answer as the contract of `place` has it
 abbrev pub Placed : ℕ → ℕ → ℕ → List Range → List Range → Spot → ℕ → Type 0
-Placed a size low rs qs s jumps = (s ≡ placeOf a size low rs qs) × (jumps ≤ windowsOf qs * length rs)
+Placed a size low rs qs s jumps = (s ≡ spotOf (placeOf a size low rs qs)) × (jumps ≤ windowsOf qs * length rs)
 
 module _ (a size low : ℕ) (rs : List Range) (s : Spot) (jumps : ℕ) where
-  open-placed : (qs : List Range) → length qs ≡ 0 → (s ≡ placeOf a size low rs (range 0 U64MAX ∷ [])) × (jumps ≤ length rs) → Placed a size low rs qs s jumps
+  open-placed : (qs : List Range) → length qs ≡ 0 → (s ≡ spotOf (placeOf a size low rs (range 0 U64MAX ∷ []))) × (jumps ≤ length rs) → Placed a size low rs qs s jumps
   unfolding windowsOf
   open-placed qs z e = rw (none-listed qs z) (e .0 ∙ windows-open a size low rs, omega (arith, e .1, one-mul (length rs)))
 
@@ -191,7 +191,7 @@ module _
   unfolding allowed
   allowed-is = rw hm
 
-  pub place-open : m ≡ 0 → (s ≡ placeOf a size low (listed n (b .starts) (b .lasts)) (range 0 U64MAX ∷ [])) × (jumps ≤ n) → Placed a size low (blockedList b) (allowed q) s jumps
+  pub place-open : m ≡ 0 → (s ≡ spotOf (placeOf a size low (listed n (b .starts) (b .lasts)) (range 0 U64MAX ∷ []))) × (jumps ≤ n) → Placed a size low (blockedList b) (allowed q) s jumps
   place-open z e =
       rw (blocked-is, allowed-is)
       (open-placed a size low (listed n (b .starts) (b .lasts)) s jumps (listed m (q .starts) (q .lasts)) (length-listed m (q .starts) (q .lasts) ms ml ∙ z)

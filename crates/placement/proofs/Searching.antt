@@ -12,7 +12,7 @@ use Rattle.ranges.specs.declared.Range.{Range}
 use Rattle.ranges.specs.Ranges.{inside, passes, passes-false, span}
 use Rattle.alignment.specs.declared.Spot.{Spot}
 use Rattle.alignment.specs.declared.Spot.the-variants.{Nowhere, At}
-use Rattle.alignment.specs.Multiples.{multiple, Lowest, lowest-unique, MultipleFrom, lowestMultiple, lowest-is}
+use Rattle.alignment.specs.Multiples.{multiple, Lowest, lowest-unique, MultipleFrom, lowestMultiple, lowest-is, spotOf}
 use Rattle.rangelists.specs.Listed.{listed, length-listed}
 use Rattle.placement.specs.Candidates.{permits, Candidate, placeOf}
 use Rattle.placement.specs.Lowest.{ends-before, window-starts, window-before, place-lowest}
@@ -57,7 +57,7 @@ pub record Reached (a size low : ℕ) (rs : List Range) (w : Range) (x jumps : �
 module _ (a size low n : ℕ) (ss ls : List ℕ) (hs : n ≤ length ss) (hl : n ≤ length ls) (w : Range) where
   -- as the contract has it
   abbrev Answer : Spot → ℕ → Type 0
-  Answer s jumps = (s ≡ placeOf a size low (listed n ss ls) (w ∷ [])) × (jumps ≤ n)
+  Answer s jumps = (s ≡ spotOf (placeOf a size low (listed n ss ls) (w ∷ []))) × (jumps ≤ n)
 
   answer : (s : Spot) (jumps : ℕ) → Lowest (Candidate a size low (listed n ss ls) (w ∷ [])) s → jumps ≤ length (listed n ss ls) → Answer s jumps
   answer s jumps l h = (lowest-unique _ s _ l (place-lowest a size low (listed n ss ls) (w ∷ [])), rw (← length-listed n ss ls hs hl) h)

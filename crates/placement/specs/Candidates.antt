@@ -4,12 +4,11 @@ use Prim.Native.Nat.{ℕ, _+_, _≤_, min}
 use mathlib.Core.Path.{_≡_}
 use mathlib.Core.Bool.{Bool, true, false, not, _&&_, cond}
 use mathlib.Core.List.{List, [], _∷_, _++_, map}
+use mathlib.Core.Option.{Option, none, some}
 use lib.Dec.{leb}
 use Rattle.lists.specs.Search.{any}
 use Rattle.ranges.specs.declared.Range.{Range}
 use Rattle.ranges.specs.Ranges.{share, inside, passes, span}
-use Rattle.alignment.specs.declared.Spot.{Spot}
-use Rattle.alignment.specs.declared.Spot.the-variants.{Nowhere, At}
 use Rattle.alignment.specs.Multiples.{multiple, roundUp}
 use Rattle.rangelists.specs.Listed.{listed}
 use Rattle.placement.specs.declared.Blocked.{Blocked}
@@ -40,15 +39,15 @@ isCandidate a n low blocked allow x =
 unfoldable pub starts : ℕ → ℕ → List Range → List Range → List ℕ
 starts a low blocked allow = roundUp a low ∷ (map (λ (q : Range). roundUp a (q .start)) allow ++ map (λ (r : Range). roundUp a (r .last + 1)) blocked)
 
-abbrev pub lower : ℕ → Spot → Spot
-lower x Nowhere = At x
-lower x (At y) = At (min x y)
+abbrev pub lower : ℕ → Option ℕ → Option ℕ
+lower x none = some x
+lower x (some y) = some (min x y)
 
 -- the lowest number of a list that passes a test
-unfoldable pub lowestOf : (ℕ → Bool) → List ℕ → Spot
-lowestOf p [] = Nowhere
+unfoldable pub lowestOf : (ℕ → Bool) → List ℕ → Option ℕ
+lowestOf p [] = none
 lowestOf p (x ∷ xs) = cond (p x) (lower x (lowestOf p xs)) (lowestOf p xs)
 
 -- the lowest start that is a candidate. `place-lowest`: no candidate is lower
-unfoldable pub placeOf : ℕ → ℕ → ℕ → List Range → List Range → Spot
+unfoldable pub placeOf : ℕ → ℕ → ℕ → List Range → List Range → Option ℕ
 placeOf a n low blocked allow = lowestOf (isCandidate a n low blocked allow) (starts a low blocked allow)

@@ -1,6 +1,6 @@
 -- The search as the code makes it: it stands at a place, jumps past every range that it touches there, and so never passes a place that is free.
 -- Each jump leaves the range that caused it behind for good, which bounds their number.
-use Prim.Native.Nat.{ℕ, _+_, _≤_, _<_}
+use Prim.Native.Nat.{ℕ, _+_, _≤_, _<_, min}
 use mathlib.Core.Path.{_≡_}
 use mathlib.Core.Bool.{Bool, true, false, not, _&&_, cond}
 use mathlib.Core.List.{List, [], _∷_}
@@ -12,8 +12,8 @@ use Rattle.ranges.specs.declared.Range.{Range}
 use Rattle.ranges.specs.Ranges.{share, inside, passes, span}
 use Rattle.alignment.specs.declared.Spot.{Spot}
 use Rattle.alignment.specs.declared.Spot.the-variants.{Nowhere, At}
-use Rattle.alignment.specs.Multiples.{multiple, lowestMultiple}
-use Rattle.placement.specs.Candidates.{lower, placeOf}
+use Rattle.alignment.specs.Multiples.{multiple, lowestMultiple, spotOf}
+use Rattle.placement.specs.Candidates.{placeOf}
 
 -- the next place from x on at which q is not touched: x itself, or the lowest multiple past q
 unfoldable pub pastOf : ℕ → ℕ → ℕ → Range → Spot
@@ -58,12 +58,13 @@ roomAt n x window = not (passes x n) && inside (span x n) window
 -- the lower of two places
 abbrev pub lowerOf : Spot → Spot → Spot
 lowerOf Nowhere s = s
-lowerOf (At x) s = lower x s
+lowerOf (At x) Nowhere = At x
+lowerOf (At x) (At y) = At (min x y)
 
 -- the lowest place in one of the windows
 unfoldable pub inWindows : ℕ → ℕ → ℕ → List Range → List Range → Spot
 inWindows a n low rs [] = Nowhere
-inWindows a n low rs (w ∷ ws) = lowerOf (placeOf a n low rs (w ∷ [])) (inWindows a n low rs ws)
+inWindows a n low rs (w ∷ ws) = lowerOf (spotOf (placeOf a n low rs (w ∷ []))) (inWindows a n low rs ws)
 
 -- in how many windows is searched: without an allow list in one. In each there are at most as many jumps as blocked ranges
 unfoldable pub windowsOf : List Range → ℕ

@@ -11,9 +11,8 @@ use Rattle.lists.specs.Tests.{by-test, contrary, and-left, and-right, and-both,
 use Rattle.lists.specs.Search.{any, any-append, any-nil, any-cons, find, find-none, find-some, find-some-any, find-any-true, find-cons-true, find-cons-false}
 use Rattle.ranges.specs.declared.Range.{Range}
 use Rattle.ranges.specs.Ranges.{share, sharedStart, sharedLast, inside, inside-from, inside-upto, passes, passes-false, lastOf, span, span-some, U64MAX}
-use Rattle.alignment.specs.declared.Spot.{Spot}
 use Rattle.alignment.specs.declared.Spot.the-variants.{Nowhere, At}
-use Rattle.alignment.specs.Multiples.{multiple, roundUp, Lowest, MultipleFrom, lowestMultiple, lowest-is}
+use Rattle.alignment.specs.Multiples.{multiple, roundUp, Lowest, MultipleFrom, lowestMultiple, lowest-is, spotOf}
 use Rattle.placement.specs.Candidates.{Candidate, isCandidate, permits, starts, lower, lowestOf, placeOf}
 
 -- ---- from a place to a later one
@@ -124,18 +123,18 @@ module _ (p : ℕ → Bool) where
   unfolding upTo
   upTo-le n y e = leb-true y n (and-right (p y) (leb y n) e)
 
-  abbrev LowestIn : List ℕ → Spot → Type 0
-  LowestIn xs (At x) = (p x ≡ true) × ((n : ℕ) → any (upTo n) xs ≡ true → x ≤ n)
-  LowestIn xs Nowhere = (n : ℕ) → any (upTo n) xs ≡ true → ⊥
+  abbrev LowestIn : List ℕ → Option ℕ → Type 0
+  LowestIn xs (some x) = (p x ≡ true) × ((n : ℕ) → any (upTo n) xs ≡ true → x ≤ n)
+  LowestIn xs none = (n : ℕ) → any (upTo n) xs ≡ true → ⊥
 
   split : {C : Type 0} (n w : ℕ) (xs : List ℕ) → any (upTo n) (w ∷ xs) ≡ true → (upTo n w ≡ true → C) → (any (upTo n) xs ≡ true → C) → C
   split n w xs e f g = by-test (upTo n w) f (λ t. g (or-other (upTo n w) (any (upTo n) xs) (sym (any-cons (upTo n) w xs) ∙ e) t))
 
-  step : (w : ℕ) (xs : List ℕ) (b : Bool) → p w ≡ b → (r : Spot) → LowestIn xs r → LowestIn (w ∷ xs) (cond b (lower w r) r)
-  step w xs false e Nowhere h = λ n t. split n w xs t (λ u. contrary (p w) (upTo-passes n w u) e) (λ u. h n u)
-  step w xs false e (At x) h = (h .0, λ n t. split n w xs t (λ u. contrary (p w) (upTo-passes n w u) e) (λ u. h .1 n u))
-  step w xs true e Nowhere h = (e, λ n t. split n w xs t (λ u. upTo-le n w u) (λ u. absurd (h n u)))
-  step w xs true e (At x) h =
+  step : (w : ℕ) (xs : List ℕ) (b : Bool) → p w ≡ b → (r : Option ℕ) → LowestIn xs r → LowestIn (w ∷ xs) (cond b (lower w r) r)
+  step w xs false e none h = λ n t. split n w xs t (λ u. contrary (p w) (upTo-passes n w u) e) (λ u. h n u)
+  step w xs false e (some x) h = (h .0, λ n t. split n w xs t (λ u. contrary (p w) (upTo-passes n w u) e) (λ u. h .1 n u))
+  step w xs true e none h = (e, λ n t. split n w xs t (λ u. upTo-le n w u) (λ u. absurd (h n u)))
+  step w xs true e (some x) h =
       by-test (leb w x)
       (λ q. let l = leb-true w x q in let m : min w x ≡ w = omega arith in rw m (e, λ n t. split n w xs t (λ u. upTo-le n w u) (λ u. omega (arith, h .1 n u))))
       (λ q. let l = leb-false w x q in let m : min w x ≡ x = omega arith in rw m (h .0, λ n t. split n w xs t (λ u. omega (arith, upTo-le n w u)) (λ u. h .1 n u)))
@@ -238,10 +237,10 @@ module _ (a n low : ℕ) (blocked allow : List Range) (y : ℕ) (c : Candidate a
           (λ t. climb-from (w .start) ok low (omega arith) (omega (arith, leb-false low (w .start) t)) (c .from) in-low)
 
 -- THE LAW: it is the lowest candidate, or there is none. For every alignment: of 0 only 0 is a multiple
-pub place-lowest : (a n low : ℕ) (blocked allow : List Range) → Lowest (Candidate a n low blocked allow) (placeOf a n low blocked allow)
+pub place-lowest : (a n low : ℕ) (blocked allow : List Range) → Lowest (Candidate a n low blocked allow) (spotOf (placeOf a n low blocked allow))
 unfolding placeOf
 place-lowest a n low blocked allow = go (lowestOf (isCandidate a n low blocked allow) (starts a low blocked allow)) (lowest-in (isCandidate a n low blocked allow) (starts a low blocked allow))
   where
-    go : (o : Spot) → LowestIn (isCandidate a n low blocked allow) (starts a low blocked allow) o → Lowest (Candidate a n low blocked allow) o
-    go (At x) h = (isCandidate-is a n low blocked allow x (h .0), λ y c. h .1 y (some-start a n low blocked allow y c))
-    go Nowhere h = λ y c. h y (some-start a n low blocked allow y c)
+    go : (o : Option ℕ) → LowestIn (isCandidate a n low blocked allow) (starts a low blocked allow) o → Lowest (Candidate a n low blocked allow) (spotOf o)
+    go (some x) h = (isCandidate-is a n low blocked allow x (h .0), λ y c. h .1 y (some-start a n low blocked allow y c))
+    go none h = λ y c. h y (some-start a n low blocked allow y c)

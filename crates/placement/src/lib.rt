@@ -3,6 +3,7 @@ ghost use mathlib.Core.Path.{_≡_};
 ghost use mathlib.Core.List.{[], _∷_};
 ghost use Prim.Native.Nat.{_*_, _≤_, _<_, min};
 ghost use lib.ListN.{length};
+ghost use Rattle.alignment.specs.Multiples.{spotOf};
 ghost use Rattle.rangelists.specs.Listed.{listed, allowed};
 ghost use Rattle.placement.specs.Candidates.{blockedList, placeOf};
 ghost use Rattle.placement.specs.Jumps.{pastOf, jumpsTo, Swept, roomAt, lowerOf, inWindows, windowsOf};
@@ -94,7 +95,7 @@ fn has_room(length: u64, x: u64, window: Range) -> bool
 // The lowest place in one window: passes from its start on, until one does not move.
 fn search_in<'a>(starts: &'a [u64], lasts: &'a [u64], n: usize, w: Want, window: Range) -> Search
     requires { ⌜ (n ≤ length (now starts)) × (n ≤ length (now lasts)) × (n ≤ 256) ⌝ }
-    ensures { λ r. ⌜ (r .spot ≡ placeOf (w .alignment) (w .length) (w .low) (listed n (now (starts .entry)) (now (lasts .entry))) (window ∷ [])) × (r .jumps ≤ n) ⌝ }
+    ensures { λ r. ⌜ (r .spot ≡ spotOf (placeOf (w .alignment) (w .length) (w .low) (listed n (now (starts .entry)) (now (lasts .entry))) (window ∷ []))) × (r .jumps ≤ n) ⌝ }
 {
     let first = alignment::lowest_multiple(w.alignment, ranges::higher(w.low, window.start));
     let Spot::At(start) = first else {
@@ -184,7 +185,7 @@ fn used(count: usize) -> usize
 // The lowest candidate: a multiple of the alignment from which the whole length ends by U64MAX, touches no blocked range, and lies in one single range of the allow
 // list, where that list is not empty.
 pub fn place(b: Blocked, allow: Allowed, w: Want) -> Search
-    ensures { λ r. ⌜ (r .spot ≡ placeOf (w .alignment) (w .length) (w .low) (blockedList b) (allowed allow))
+    ensures { λ r. ⌜ (r .spot ≡ spotOf (placeOf (w .alignment) (w .length) (w .low) (blockedList b) (allowed allow)))
         × (r .jumps ≤ windowsOf (allowed allow) * length (blockedList b)) ⌝ }
 {
     let n = used(b.count);

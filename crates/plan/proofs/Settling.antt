@@ -14,9 +14,8 @@ use Rattle.wire.specs.Fields.{field}
 use Rattle.rules_calls.specs.Allow.{numberAt, column}
 use Rattle.rules_table.specs.declared.Table.{Table}
 use Rattle.rules_calls.specs.declared.Answer.{Answer}
-use Rattle.rules_calls.specs.Answers.{freshAnswer}
-use Rattle.rules_calls.specs.Attach.{attachCall}
-use Rattle.rules_calls.specs.Bind.{bindCall}
+use Rattle.rules_calls.specs.Answers.{freshAnswer, outcome, outcomeId}
+use Rattle.rules_calls.specs.Orders.{bindOrder, attachOrder, hostEdit}
 use Rattle.rules_calls.specs.Call.{callDone}
 use Rattle.plan.specs.declared.Setup.{Setup}
 use Rattle.plan.specs.declared.Section.the-variants.{Devices, Attachments}
@@ -58,11 +57,11 @@ unfolding part
 part-is bs from n to e = let f : to - from ≡ n = omega arith in ap (λ (k : ℕ). take k (drop from bs)) f
 
 pub device-is : (bs : List ℕ) (at b n : ℕ) (l : Reserved) (area : List ℕ) (t : Table) (a : Answer) (s : Setup) → b ≡ field 8 bs at → n ≡ field 4 bs (at + 8)
-    → area ≡ part (at + 12) (16 * n) bs → l ≡ reservedIn n area → a ≡ bindCall t b l → s ≡ setupBy a → s ≡ withDevice (deviceAt bs at) t
+    → area ≡ part (at + 12) (16 * n) bs → l ≡ reservedIn n area → a ≡ outcomeId t (hostEdit t (bindOrder b l)) → s ≡ setupBy a → s ≡ withDevice (deviceAt bs at) t
 unfolding withDevice deviceAt
 device-is bs at b n l area t a s eb en ea el ec es = es ∙ ap setupBy (ec ∙ rw (el, ea, eb, en) refl)
 
-pub pair-is : (bs : List ℕ) (at d h : ℕ) (t : Table) (a : Answer) (s : Setup) → d ≡ field 4 bs at → h ≡ field 4 bs (at + 4) → a ≡ attachCall t d h → s ≡ setupBy a → s ≡ withPair (pairAt bs at) t
+pub pair-is : (bs : List ℕ) (at d h : ℕ) (t : Table) (a : Answer) (s : Setup) → d ≡ field 4 bs at → h ≡ field 4 bs (at + 4) → a ≡ outcome t (hostEdit t (attachOrder d h)) → s ≡ setupBy a → s ≡ withPair (pairAt bs at) t
 unfolding withPair pairAt
 pair-is bs at d h t a s ed eh ec es = es ∙ ap setupBy (ec ∙ rw (ed, eh) refl)
 

@@ -6,9 +6,8 @@ use lib.IntN.{pos}
 use lib.Signed.{ltZ}
 use Rattle.rules_table.specs.declared.Table.{Table}
 use Rattle.rules_calls.specs.declared.Answer.{Answer}
-use Rattle.rules_calls.specs.Answers.{freshAnswer}
-use Rattle.rules_calls.specs.Attach.{attachCall}
-use Rattle.rules_calls.specs.Bind.{bindCall}
+use Rattle.rules_calls.specs.Answers.{freshAnswer, outcome, outcomeId}
+use Rattle.rules_calls.specs.Orders.{bindOrder, attachOrder, hostEdit}
 use Rattle.rules_calls.specs.Call.{callDone}
 use Rattle.plan.specs.declared.Setup.{Setup}
 use Rattle.plan.specs.Plan.{Device, Pair, Plan}
@@ -36,10 +35,10 @@ unfoldable pub withSpace : Table → Setup
 withSpace t = setupBy (callDone t 0x3B81 allocBytes [] .answer)
 
 unfoldable pub withDevice : Device → Table → Setup
-withDevice d t = setupBy (bindCall t (d .bitmap) (d .reserved))
+withDevice d t = setupBy (outcomeId t (hostEdit t (bindOrder (d .bitmap) (d .reserved))))
 
 unfoldable pub withPair : Pair → Table → Setup
-withPair p t = setupBy (attachCall t (p .device) (p .space))
+withPair p t = setupBy (outcome t (hostEdit t (attachOrder (p .device) (p .space))))
 
 unfoldable pub withSpaces : ℕ → Table → Setup
 withSpaces zero t = kept t

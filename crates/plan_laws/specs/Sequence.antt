@@ -7,6 +7,7 @@ use lib.Dec.{ltb}
 use lib.ListN.{replicate}
 use borrow.Author.Tests.{ltb-false}
 use Rattle.lists.specs.Tests.{by-test, contrary}
+use Rattle.rules_calls.specs.Named.{bindCall, attachCall}
 use Rattle.rules_calls.specs.Results.{result}
 use Rattle.rules_table.specs.declared.Table.{Table}
 use Rattle.rules_table.specs.Records.{freshTable}
@@ -74,11 +75,11 @@ unfolding withSpace setupBy after
 space-set t = record { table = λ r. refl }
 
 device-set : (d : Device) (t : Table) → Set (withDevice d t) (deviceCall d ∷ []) t
-unfolding withDevice setupBy after
+unfolding withDevice setupBy after bindCall
 device-set d t = record { table = λ r. refl }
 
 pair-set : (p : Pair) (t : Table) → Set (withPair p t) (pairCall p ∷ []) t
-unfolding withPair setupBy after
+unfolding withPair setupBy after attachCall
 pair-set p t = record { table = λ r. refl }
 
 spaces-set : (n : ℕ) (t : Table) → Set (withSpaces n t) (replicate n spaceCall) t

@@ -5,7 +5,7 @@ use mathlib.Core.Bool.{Bool, true, false}
 use mathlib.Core.List.{List}
 use lib.ListN.{length, getD, drop}
 use borrow.Author.Tests.{le-leb, lt-leb}
-use Rattle.lists.specs.Search.{any, all, seek, seek-found, seek-on, seek-end, all-failed, all-on, all-end}
+use Rattle.lists.specs.Search.{any, all, seek-found, seek-on, seek-end, all-failed, all-on, all-end}
 use Rattle.lists.specs.Pairs.{clashes, clashes-found, clashes-on, clashes-end}
 use Rattle.ranges.specs.declared.Range.{Range}
 use Rattle.ranges.specs.Ranges.{range, share}

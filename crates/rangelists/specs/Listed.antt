@@ -10,7 +10,7 @@ use lib.Dec.{leb}
 use lib.ListN.{length, getD, take, drop, length-take}
 use lib.Seq.{getD-take}
 use Rattle.lists.specs.Search.{any, all, seek, seek-none, seek-any-false, seek-some-at, seek-some-before}
-use Rattle.lists.specs.Pairs.{clashes, clashes-false-at, clashes-place}
+use Rattle.lists.specs.Pairs.{clashes, clashes-false-at, clashes-slot}
 use Rattle.ranges.specs.declared.Range.{Range}
 use Rattle.ranges.specs.Ranges.{range, holds, share, share-address, share-false}
 use Rattle.rangelists.specs.declared.Reserved.{Reserved}
@@ -131,4 +131,4 @@ overlap-false rs i j a e h k = share-false (getD rs i zeroRange) (getD rs j zero
 pub overlap-true : (rs : List Range) → overlap rs ≡ true
     → (i : ℕ) × (j : ℕ) × (i < j) × (j < length rs) × ((a : ℕ) × (holds (getD rs i zeroRange) a ≡ true) × (holds (getD rs j zeroRange) a ≡ true))
 unfolding overlap
-overlap-true rs e = let w = clashes-place share rs zeroRange e in (w .0, w .1, w .2, w .3, share-address (getD rs (w .0) zeroRange) (getD rs (w .1) zeroRange) (w .4))
+overlap-true rs e = let w = clashes-slot share rs zeroRange e in (w .0, w .1, w .2, w .3, share-address (getD rs (w .0) zeroRange) (getD rs (w .1) zeroRange) (w .4))

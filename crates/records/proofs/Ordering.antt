@@ -9,7 +9,7 @@ use lib.ListN.{length, getD, set, replicate, length-set, length-replicate}
 use lib.Seq.{getD-set-same, getD-set-other}
 use borrow.Author.Tests.{eqb-true, eqb-false, ltb-true, ltb-false, not-true}
 use Rattle.lists.specs.Tests.{by-test, contrary, and-left, and-right}
-use Rattle.lists.specs.Pairs.{clashes, clashes-place}
+use Rattle.lists.specs.Pairs.{clashes, clashes-slot}
 use Rattle.ranges.specs.Ranges.{U64MAX, lastOf, span, share-address, holds-from, holds-upto}
 use Rattle.rules_table.specs.declared.Mapping.{Mapping}
 use Rattle.rules_table.specs.Records.{zeroMapping, used, extent}
@@ -55,7 +55,7 @@ ordered-start ms h = record {
 pub ordered-end : (ms : List Mapping) (i : ℕ) (floors : List ℕ) → Ordered ms i floors → 128 ≤ i → clashes together ms ≡ false
 ordered-end ms i floors o h =
     by-test (clashes together ms)
-    (λ t. let c = clashes-place together ms zeroMapping t in contrary (together (here ms (c .0)) (here ms (c .1))) (c .4) (o .clear (c .0) (c .1) (c .2) (omega (arith, c .3, o .many))))
+    (λ t. let c = clashes-slot together ms zeroMapping t in contrary (together (here ms (c .0)) (here ms (c .1))) (c .4) (o .clear (c .0) (c .1) (c .2) (omega (arith, c .3, o .many))))
     (λ t. t)
 
 -- one turn, with the place k of the record at i, its last address, and the floor that comes next

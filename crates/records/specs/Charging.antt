@@ -9,7 +9,7 @@ use lib.Dec.{leb, eqb}
 use lib.ListN.{length, getD}
 use borrow.Author.Tests.{eqb-true, eqb-false, eq-eqb, ne-eqb, leb-true, leb-false, not-true, not-false}
 use Rattle.lists.specs.Tests.{by-test, contrary, and-left, and-right, and-not-right, onlyIf, onlyIf-false}
-use Rattle.lists.specs.Search.{any, all, find, seek, any-place, any-none, all-at, find-cons-true, find-cons-false, find-any-true, find-any-false, seek-some-lt, seek-some-at, seek-some-before}
+use Rattle.lists.specs.Search.{any, all, find, seek, any-slot, any-none, all-at, find-cons-true, find-cons-false, find-any-true, find-any-false, seek-some-lt, seek-some-at, seek-some-before}
 use Rattle.lists.specs.Pairs.{clashes, clashes-false-at}
 use Rattle.lists.specs.Below.{sumBelow, sumBelow-cong, sumBelow-zero, sumBelow-add, sumBelow-only}
 use Rattle.rules_table.specs.declared.Mapping.{Mapping}
@@ -95,7 +95,7 @@ module _ (ms : List Mapping) (num : all numbered ms ≡ true) where
   pub agree-first : (m : Mapping) (k : ℕ) → clashes differ ms ≡ false → seek (backs (m .backing)) 0 ms ≡ some k → differ (getD ms k zeroMapping) m ≡ false → any (λ y. differ y m) ms ≡ false
   agree-first m k ok s d =
       by-test (any (λ y. differ y m) ms)
-      (λ t. let w = any-place (λ y. differ y m) ms zeroMapping t in none (w .0) (w .1) (w .2) (differ-parts (getD ms (w .0) zeroMapping) m (w .2)))
+      (λ t. let w = any-slot (λ y. differ y m) ms zeroMapping t in none (w .0) (w .1) (w .2) (differ-parts (getD ms (w .0) zeroMapping) m (w .2)))
       (λ t. t)
     where
       none : (j : ℕ) → j < length ms → differ (getD ms j zeroMapping) m ≡ true

@@ -9,6 +9,7 @@ use Rattle.lists.specs.Checks.{Check, when, first}
 use Rattle.rangelists.specs.declared.Allowed.{Allowed}
 use Rattle.rangelists.specs.Listed.{allowed, places, listed, reserved, ordered, valid, overlap}
 use Rattle.wire.specs.Fields.{field, put}
+use Rattle.rules_table.specs.Limits.{mostAllowed, rangeBytes}
 use Rattle.rules_table.specs.declared.Object.{Object}
 use Rattle.rules_table.specs.Records.{objectAt, spaceAt, noReserved, noAllowed, newSpace}
 use Rattle.rules_table.specs.Spaces.{reservedOf, reservedFor}
@@ -17,12 +18,6 @@ use Rattle.rules_table.specs.Good.{listsTouch}
 use Rattle.rules_calls.specs.declared.Change.the-variants.{Put}
 use Rattle.rules_calls.specs.declared.Edit.{Edit}
 use Rattle.rules_calls.specs.Edits.{settle, accept}
-use Rattle.rules_table.specs.declared.Table.{Table}
-use Rattle.rules_calls.specs.declared.Answer.{Answer}
-use Rattle.rules_calls.specs.Answers.{outcome}
-use Rattle.rules_calls.specs.declared.Command.the-variants as Named
-use Rattle.rules_calls.specs.Requests.{number}
-use Rattle.rules_calls.specs.Gate.{gateErrno}
 use mathlib.Core.Path.{_≡_, refl}
 use Rattle.lists.specs.Search.{any, all}
 use Rattle.lists.specs.Pairs.{clashes}
@@ -43,9 +38,13 @@ allowFields bytes = record { space = field 4 bytes 4; count = field 4 bytes 8; m
 
 -- ---- the range area
 
--- a number of range k of the area, and 0 from range n on. A range has 16 bytes: its start at offset 0, its last at offset 8
+-- the area has no room for so many ranges: 14
+abbrev pub noRoom : ℕ → ℕ → Check ℕ
+noRoom room count = when (ltb room (rangeBytes * count)) 14
+
+-- a number of range k of the area, and 0 from range n on: its start at offset 0, its last at offset 8
 unfoldable pub numberAt : ℕ → ℕ → ℕ → List ℕ → ℕ
-numberAt off n k area = cond (ltb k n) (field 8 area (16 * k + off)) 0
+numberAt off n k area = cond (ltb k n) (field 8 area (rangeBytes * k + off)) 0
 
 -- such a number of each range from k on, for so many places
 unfoldable pub column : ℕ → ℕ → ℕ → ℕ → List ℕ → List ℕ
@@ -54,7 +53,7 @@ column off n k (suc room) area = numberAt off n k area ∷ column off n (k + 1) 
 
 -- the list of the first count ranges of the area
 unfoldable pub areaList : ℕ → List ℕ → Allowed
-areaList count area = record { count = count; starts = column 0 count 0 8 area; lasts = column 8 count 0 8 area }
+areaList count area = record { count = count; starts = column 0 count 0 mostAllowed area; lasts = column 8 count 0 mostAllowed area }
 
 unfoldable pub withAllow : Object → Allowed → Object
 withAllow o l = record { kind = o .kind; bitmap = o .bitmap; reserved = o .reserved; allow = l }
@@ -66,7 +65,7 @@ allowNumberChecks os c room =
     when (not (eqb (c .mustBeZero) 0)) 95
     ∷ when (not (spaceAt os (c .space))) 2
     ∷ tooMany (c .count)
-    ∷ when (ltb room (16 * c .count)) 14
+    ∷ noRoom room (c .count)
     ∷ []
 
 unfoldable pub listChecks : List Object → ℕ → Allowed → List (Check ℕ)
@@ -81,14 +80,6 @@ allowChecks os c area = allowNumberChecks os c (length area) ++ listChecks os (c
 unfoldable pub allowEdit : List Object → AllowFields → List ℕ → Edit
 allowEdit os c area =
     settle (first (allowChecks os c area) 0) (accept 0 (Put (c .space - 1)) (withAllow (objectAt os (c .space)) (areaList (c .count) area)))
-
--- ---- the command, for any table and any bytes
-
-abbrev pub allowCall : Table → List ℕ → List ℕ → Edit
-allowCall t bytes area = settle (gateErrno t (number Named.AllowIovas) bytes) (allowEdit (t .objects) (allowFields bytes) area)
-
-unfoldable pub allowAnswer : Table → List ℕ → List ℕ → Answer
-allowAnswer t bytes area = outcome t (allowCall t bytes area)
 
 -- ---- examples: to unfold `allows` is to unfold all that it lists
 

@@ -20,10 +20,6 @@ use Rattle.rules_table.specs.Good.{listsTouch}
 use Rattle.rules_calls.specs.declared.Change.the-variants.{Put}
 use Rattle.rules_calls.specs.declared.Edit.{Edit}
 use Rattle.rules_calls.specs.Edits.{settle, accept}
-use Rattle.rules_table.specs.declared.Table.{Table}
-use Rattle.rules_calls.specs.declared.Answer.{Answer}
-use Rattle.rules_calls.specs.Gate.{tableErrno}
-use Rattle.rules_calls.specs.Answers.{outcome}
 use mathlib.Core.Path.{_≡_, refl}
 use lib.ListN.{replicate}
 use lib.Count.{trailingZeros}
@@ -66,17 +62,9 @@ detachChecks o = when (not (isDevice (o .kind))) 2 ∷ when (not (isAttached (o 
 unfoldable pub detachEdit : List Object → ℕ → Edit
 detachEdit os d = settle (first (detachChecks (objectAt os d)) 0) (accept 0 (Put (d - 1)) (looseObject (objectAt os d)))
 
--- ---- the calls, for any table
-
-unfoldable pub attachCall : Table → ℕ → ℕ → Answer
-attachCall t d s = outcome t (settle (tableErrno t) (attachEdit (t .objects) (t .mappings) d s))
-
-unfoldable pub detachCall : Table → ℕ → Answer
-detachCall t d = outcome t (settle (tableErrno t) (detachEdit (t .objects) d))
-
 -- ---- examples: to unfold `attaches` is to unfold all that it lists
 
-unfoldable attaches : List Object → List Mapping → ℕ → ℕ → Edit
+unfoldable pub attaches : List Object → List Mapping → ℕ → ℕ → Edit
 unfolding attachEdit attachChecks first objectAt spaceAt any blockedBy misfits alignmentWith alignment highest pageFor smallestPage trailingZeros multiple fits ofSpace extent span lastOf share sharedStart sharedLast listsTouch reserved allowed listed places attachedObject detachEdit detachChecks looseObject
 attaches os ms d s = attachEdit os ms d s
 

@@ -10,11 +10,7 @@ use Rattle.rules_table.specs.Records.{noAllowed, noReserved, newSpace, freeObje
 use Rattle.rules_table.specs.Charge.{freeRecord}
 use Rattle.rules_table.specs.Fits.{bindChecks}
 use Rattle.rules_calls.specs.declared.Edit.{Edit}
-use Rattle.rules_calls.specs.Edits.{settle, noRecord, placed, accept}
-use Rattle.rules_table.specs.declared.Table.{Table}
-use Rattle.rules_calls.specs.declared.Answer.{Answer}
-use Rattle.rules_calls.specs.Gate.{tableErrno}
-use Rattle.rules_calls.specs.Answers.{outcomeId}
+use Rattle.rules_calls.specs.Edits.{settle, noRecord, added, accept}
 use mathlib.Core.Path.{_≡_, refl}
 use lib.Count.{trailingZeros}
 use Rattle.lists.specs.Search.{all, seek}
@@ -40,16 +36,11 @@ unfoldable pub bindRule : List Object → ℕ → Reserved → List (Check ℕ)
 bindRule os bitmap l = bindChecks bitmap l ++ noRecord (freeRecord os) ∷ []
 
 unfoldable pub bindEdit : List Object → ℕ → Reserved → Edit
-bindEdit os bitmap l = settle (first (bindRule os bitmap l) 0) (placed (freeRecord os) (newDevice bitmap l))
-
--- ---- the call, for any table: the new id, or a refusal
-
-unfoldable pub bindCall : Table → ℕ → Reserved → Answer
-bindCall t bitmap l = outcomeId t (settle (tableErrno t) (bindEdit (t .objects) bitmap l))
+bindEdit os bitmap l = settle (first (bindRule os bitmap l) 0) (added (freeRecord os) (newDevice bitmap l))
 
 -- ---- examples: to unfold `binds` is to unfold all that it lists
 
-unfoldable binds : List Object → ℕ → Reserved → Edit
+unfoldable pub binds : List Object → ℕ → Reserved → Edit
 unfolding bindEdit bindRule bindChecks first smallestPage trailingZeros reserved listed places ordered valid all newDevice trimmed onlyFirst freeRecord seek
 binds os bitmap l = bindEdit os bitmap l
 

@@ -1,5 +1,5 @@
--- One door for the seven commands (document 01, "Opening a command, in order" and after it): by the request number, each command's own answer, command bytes and range
--- area. A request that is not listed is refused as the gate says: 117, then 25.
+-- One door for the seven commands (document 01, "Opening a command, in order" and after it): 117, the opening, and by the request number what each command decides, changes
+-- and writes.
 use Prim.Native.Nat.{ℕ, _+_, _^_}
 use mathlib.Core.List.{List, [], _∷_, _++_}
 use Rattle.rules_calls.specs.declared.Command.{Command}
@@ -9,21 +9,21 @@ use Rattle.rules_calls.specs.declared.Row.the-variants.{Unlisted, Listed
 use Rattle.rules_calls.specs.Requests.{lookup}
 use Rattle.rules_table.specs.declared.Table.{Table}
 use Rattle.rules_calls.specs.declared.Answer.{Answer}
-use Rattle.rules_calls.specs.Answers.{refusedBy, outcome, replied}
+use Rattle.rules_calls.specs.Answers.{outcome, replied}
 use Rattle.rules_calls.specs.Gate.{gateErrno, gates}
-use Rattle.rules_calls.specs.Ranges.{rangesResult, rangesReply, rangesWritten, rangesCall, freeOf, rangesChecks, rangesErrno, rangesBytes, rangesArea}
-use Rattle.rules_calls.specs.Allow.{allowAnswer, allowCall, allows}
-use Rattle.rules_calls.specs.Objects.{allocAnswer, allocBytes, destroyAnswer, allocCall, destroyCall, makes, destroys}
-use Rattle.rules_calls.specs.Unmap.{unmapAnswer, unmapBytes, unmapCall, removes, unmapDecided}
-use Rattle.rules_calls.specs.Copy.{copyAnswer, copyBytes, copyCall, copies, copyDecided}
-use Rattle.rules_calls.specs.Map.{mapAnswer, mapBytes, mapCall, mapping, mapDecided}
+use Rattle.rules_calls.specs.Ranges.{rangesFields, freeOf, rangesChecks, rangesErrno, rangesBytes, rangesArea, rangesReplied, rangesFilled}
+use Rattle.rules_calls.specs.Allow.{allowFields, allowEdit, allows}
+use Rattle.rules_calls.specs.Objects.{allocEdit, destroyEdit, makes, destroys}
+use Rattle.rules_calls.specs.Unmap.{unmapFields, unmapEdit, removes}
+use Rattle.rules_calls.specs.Copy.{copyFields, copyEdit, copies}
+use Rattle.rules_calls.specs.Map.{mapFields, mapEdit, mapping}
 use Rattle.rules_calls.specs.declared.Edit.{Edit}
-use Rattle.rules_calls.specs.Edits.{refuse, applies}
+use Rattle.rules_calls.specs.Edits.{refuse, settle, applies}
 use mathlib.Core.Path.{_≡_, refl}
 use lib.IntN.{pos, negℤ}
 use lib.ListN.{replicate}
 use Rattle.ranges.specs.Ranges.{U64MAX}
-use Rattle.wire.specs.Fields.{put}
+use Rattle.wire.specs.Fields.{field, put}
 use Rattle.freeranges.specs.Free.{between, endBelow, startAbove, around, without, freeFrom, freeRanges}
 use Rattle.freeranges.specs.Written.{putAt, putRanges}
 use Rattle.rules_table.specs.declared.Kind.the-variants.{Space}
@@ -32,53 +32,55 @@ use Rattle.rules_table.specs.declared.Mapping.{Mapping}
 use Rattle.rules_table.specs.Records.{noReserved, newSpace, freeObject, zeroMapping}
 use Rattle.rules_calls.specs.Results.{result}
 
+-- what a command decides over a good table, by its own rule. IOVA_RANGES changes nothing: its edit carries the errno alone
+abbrev pub commandEdit : Command → Table → List ℕ → List ℕ → Edit
+commandEdit Destroy t bytes area = destroyEdit (t .objects) (field 4 bytes 4)
+commandEdit IoasAlloc t bytes area = allocEdit (t .objects) (field 4 bytes 4)
+commandEdit AllowIovas t bytes area = allowEdit (t .objects) (allowFields bytes) area
+commandEdit Copy t bytes area = copyEdit (t .objects) (t .mappings) (copyFields bytes)
+commandEdit IovaRanges t bytes area = refuse (rangesErrno (t .objects) (rangesFields bytes) area)
+commandEdit Map t bytes area = mapEdit (t .limit) (t .objects) (t .mappings) (mapFields bytes)
+commandEdit Unmap t bytes area = unmapEdit (t .objects) (t .mappings) (unmapFields bytes)
+
+-- a request that is not listed is refused by the gate
+abbrev pub rowEdit : Row → Table → List ℕ → List ℕ → Edit
+rowEdit Unlisted t bytes area = refuse 25
+rowEdit (Listed c size) t bytes area = commandEdit c t bytes area
+
+-- 117, then the opening, then the command
+unfoldable pub callEdit : Table → ℕ → List ℕ → List ℕ → Edit
+callEdit t request bytes area = settle (gateErrno t request bytes) (rowEdit (lookup request) t bytes area)
+
 -- what a command leaves: the answer with the table, the command bytes, the range area
 pub record Done : Type 0 where
   pub answer : Answer
   pub bytes : List ℕ
   pub area : List ℕ
 
-abbrev pub done : Answer → List ℕ → List ℕ → Done
-done a bytes area = record { answer = a; bytes = bytes; area = area }
+abbrev pub done : Table → Edit → List ℕ → List ℕ → Done
+done t e bytes area = record { answer = outcome t e; bytes = bytes; area = area }
 
--- IOVA_RANGES only reads the table
-abbrev pub commandDone : Command → Table → List ℕ → List ℕ → Done
-commandDone Destroy t bytes area = done (destroyAnswer t bytes) bytes area
-commandDone IoasAlloc t bytes area = done (allocAnswer t bytes) (allocBytes t bytes) area
-commandDone AllowIovas t bytes area = done (allowAnswer t bytes area) bytes area
-commandDone Copy t bytes area = done (copyAnswer t bytes) (copyBytes t bytes) area
-commandDone IovaRanges t bytes area = done (record { result = rangesResult t bytes area; table = t }) (rangesReply t bytes area) (rangesWritten t bytes area)
-commandDone Map t bytes area = done (mapAnswer t bytes) (mapBytes t bytes) area
-commandDone Unmap t bytes area = done (unmapAnswer t bytes) (unmapBytes t bytes) area
+-- the output field of each: the id, the target address, count, alignment and ranges, the address, the bytes removed
+abbrev pub commandDone : Command → Table → Edit → List ℕ → List ℕ → Done
+commandDone Destroy t e bytes area = done t e bytes area
+commandDone IoasAlloc t e bytes area = done t e (replied 4 8 (e .errno) (e .value) bytes) area
+commandDone AllowIovas t e bytes area = done t e bytes area
+commandDone Copy t e bytes area = done t e (replied 8 24 (e .errno) (e .value) bytes) area
+commandDone IovaRanges t e bytes area = done t e (rangesReplied (t .objects) (e .errno) bytes) (rangesFilled (t .objects) (e .errno) bytes area)
+commandDone Map t e bytes area = done t e (replied 8 32 (e .errno) (e .value) bytes) area
+commandDone Unmap t e bytes area = done t e (replied 8 16 (e .errno) (e .value) bytes) area
 
-abbrev pub rowDone : Row → Table → ℕ → List ℕ → List ℕ → Done
-rowDone Unlisted t request bytes area = done (refusedBy t (gateErrno t request bytes)) bytes area
-rowDone (Listed c size) t request bytes area = commandDone c t bytes area
+abbrev pub rowDone : Row → Table → Edit → List ℕ → List ℕ → Done
+rowDone Unlisted t e bytes area = done t e bytes area
+rowDone (Listed c size) t e bytes area = commandDone c t e bytes area
 
 unfoldable pub callDone : Table → ℕ → List ℕ → List ℕ → Done
-callDone t request bytes area = rowDone (lookup request) t request bytes area
-
--- IOVA_RANGES changes nothing: its edit carries the errno alone
-abbrev pub commandEdit : Command → Table → List ℕ → List ℕ → Edit
-commandEdit Destroy t bytes area = destroyCall t bytes
-commandEdit IoasAlloc t bytes area = allocCall t bytes
-commandEdit AllowIovas t bytes area = allowCall t bytes area
-commandEdit Copy t bytes area = copyCall t bytes
-commandEdit IovaRanges t bytes area = refuse (rangesCall t bytes area)
-commandEdit Map t bytes area = mapCall t bytes
-commandEdit Unmap t bytes area = unmapCall t bytes
-
-abbrev pub rowEdit : Row → Table → ℕ → List ℕ → List ℕ → Edit
-rowEdit Unlisted t request bytes area = refuse (gateErrno t request bytes)
-rowEdit (Listed c size) t request bytes area = commandEdit c t bytes area
-
-unfoldable pub callEdit : Table → ℕ → List ℕ → List ℕ → Edit
-callEdit t request bytes area = rowEdit (lookup request) t request bytes area
+callDone t request bytes area = rowDone (lookup request) t (callEdit t request bytes area) bytes area
 
 -- ---- examples: to unfold `calls` is to unfold all that it lists
 
-unfoldable calls : Table → ℕ → List ℕ → List ℕ → Done
-unfolding callDone callEdit gates applies outcome refusedBy replied result put mapping mapAnswer mapBytes mapCall mapDecided copies copyAnswer copyBytes copyCall copyDecided removes unmapAnswer unmapBytes unmapCall unmapDecided makes allocAnswer allocBytes allocCall destroys destroyAnswer allows allowAnswer rangesResult rangesReply rangesWritten rangesCall rangesErrno rangesChecks rangesBytes rangesArea freeOf freeRanges freeFrom without around endBelow startAbove between putRanges putAt
+unfoldable pub calls : Table → ℕ → List ℕ → List ℕ → Done
+unfolding callDone callEdit gates applies outcome replied result put mapping copies removes makes destroys allows rangesReplied rangesFilled rangesErrno rangesChecks rangesBytes rangesArea freeOf freeRanges freeFrom without around endBelow startAbove between putRanges putAt
 calls t request bytes area = callDone t request bytes area
 
 abbrev u32 : ℕ → List ℕ
@@ -103,7 +105,7 @@ one = tableOf newSpace freeObject (at 0) zeroMapping
 
 -- what is left: 0 or the negative of the errno, the table, the bytes, the area
 abbrev answers : ℕ → Table → List ℕ → List ℕ → Done
-answers errno t bytes area = done (record { result = negℤ (pos errno); table = t }) bytes area
+answers errno t bytes area = record { answer = record { result = negℤ (pos errno); table = t }; bytes = bytes; area = area }
 
 -- in space 1: readable MAP, automatic, of n bytes of memory from 4,095 on; UNMAP; readable COPY, automatic, of the two bytes at 0. The last number is what a reply
 -- writes: the address, the bytes removed, the target address

@@ -19,12 +19,6 @@ use Rattle.rules_calls.specs.Landing.{placeChecks, placeAt, lands}
 use Rattle.rules_calls.specs.Map.{rightsOf, mapped, noRight, wrongLength, fixedPasses}
 use Rattle.lists.specs.Search.{find, seek}
 use Rattle.wire.specs.Fields.{field}
-use Rattle.rules_table.specs.declared.Table.{Table}
-use Rattle.rules_calls.specs.declared.Answer.{Answer}
-use Rattle.rules_calls.specs.Answers.{outcome, replied}
-use Rattle.rules_calls.specs.declared.Command.the-variants as Named
-use Rattle.rules_calls.specs.Requests.{number}
-use Rattle.rules_calls.specs.Gate.{gateErrno}
 use mathlib.Core.Path.{_≡_, refl}
 use Rattle.rules_calls.specs.declared.Change.the-variants.{Map}
 
@@ -89,15 +83,8 @@ copyChecks os ms c =
 
 -- the mapping that COPY makes: the source's memory, backing and founding right
 unfoldable pub copyOf : Mapping → ℕ → ℕ → ℕ → ℕ → Mapping
-copyOf m flags target n x = record {
-  space = target;
-  rights = rightsOf flags;
-  founder = m .founder;
-  backing = m .backing;
-  address = x;
-  length = n;
-  memory = m .memory;
-}
+copyOf m flags target n x =
+    record { space = target; rights = rightsOf flags; founder = m .founder; backing = m .backing; address = x; length = n; memory = m .memory }
 
 -- at its place
 unfoldable pub copying : List Object → List Mapping → Mapping → ℕ → ℕ → ℕ → ℕ → Mapping
@@ -107,21 +94,6 @@ unfoldable pub copyEdit : List Object → List Mapping → CopyFields → Edit
 copyEdit os ms c =
     settle (first (copyChecks os ms c) 0)
     (mapped (freeMapping ms) (copying os ms (sourceMapping (sourceOf ms (c .source) (c .origin) (c .length))) (c .flags) (c .target) (c .length) (c .address)))
-
--- ---- the command, for any table and any bytes
-
-unfoldable pub copyDecided : Table → List ℕ → Edit
-copyDecided t bytes = copyEdit (t .objects) (t .mappings) (copyFields bytes)
-
-unfoldable pub copyCall : Table → List ℕ → Edit
-copyCall t bytes = settle (gateErrno t (number Named.Copy) bytes) (copyDecided t bytes)
-
-unfoldable pub copyAnswer : Table → List ℕ → Answer
-copyAnswer t bytes = outcome t (copyCall t bytes)
-
--- the target address is written at offset 24
-unfoldable pub copyBytes : Table → List ℕ → List ℕ
-copyBytes t bytes = replied 8 24 (copyCall t bytes .errno) (copyCall t bytes .value) bytes
 
 -- ---- examples: to unfold `copies` is to unfold all that it lists
 

@@ -1,12 +1,12 @@
 -- An edit: what a call decides over a good table. Deciding changes nothing; `applied` is the table after it.
 use Prim.Native.Nat.{ℕ, zero, suc, _+_}
 use mathlib.Core.Bool.{Bool, true, false, cond}
-use mathlib.Core.List.{map, [], _∷_}
+use mathlib.Core.List.{List, map, [], _∷_}
 use mathlib.Core.Option.{Option, none, some}
 use lib.Dec.{leb}
 use lib.ListN.{set}
 use Rattle.lists.specs.Checks.{Check, when}
-use Rattle.ranges.specs.declared.Range.{Range}
+use Rattle.rules_table.specs.Limits.{objectCount}
 use Rattle.rules_table.specs.declared.Object.{Object}
 use Rattle.rules_table.specs.declared.Mapping.{Mapping}
 use Rattle.rules_table.specs.declared.Table.{Table}
@@ -23,6 +23,10 @@ refuse n = record { errno = n; value = 0; change = Nothing; object = freeObject 
 abbrev pub accept : ℕ → Change → Object → Edit
 accept v c o = record { errno = 0; value = v; change = c; object = o }
 
+-- an answer that changes nothing
+abbrev pub tells : ℕ → Edit
+tells v = accept v Nothing freeObject
+
 -- a refusal where a check fired, else the edit
 abbrev pub settle : ℕ → Edit → Edit
 settle zero e = e
@@ -32,45 +36,43 @@ abbrev pub isNone : {A : Type 0} → Option A → Bool
 isNone none = true
 isNone (some a) = false
 
+-- the number that was found, 0 where none was
+abbrev pub numberIn : Option ℕ → ℕ
+numberIn none = 0
+numberIn (some n) = n
+
 -- no record: 12
 abbrev pub noRecord : Option ℕ → Check ℕ
 noRecord free = when (isNone free) 12
 
 -- a new object takes the lowest free record and gets its id; where none is left, `noRecord` has said so
-abbrev pub placed : Option ℕ → Object → Edit
-placed none n = refuse 12
-placed (some i) n = accept (i + 1) (Put i) n
+abbrev pub added : Option ℕ → Object → Edit
+added none n = refuse 12
+added (some i) n = accept (i + 1) (Put i) n
 
--- the object record at place i becomes n
-unfoldable pub putObject : Table → ℕ → Object → Table
-putObject t i n = record { limit = t .limit; objects = set (t .objects) i n; mappings = t .mappings }
+-- the object records after a change, in whatever form they are kept: the new one in its slot, a released one where a space was
+abbrev pub objectsAfter : {A : Type 0} → A → A → Change → List A → List A
+objectsAfter free new Nothing os = os
+objectsAfter free new (Put i) os = set os i new
+objectsAfter free new (Drop i) os = set os i free
+objectsAfter free new (Map i m) os = os
+objectsAfter free new (Clear s r) os = os
 
--- the space at place i is released, and its mappings with it; a place that no record has changes nothing
-unfoldable pub dropSpace : Table → ℕ → Table
-dropSpace t i = cond (leb 32 i) t record { limit = t .limit; objects = set (t .objects) i freeObject; mappings = map (release (ofSpace (i + 1))) (t .mappings) }
-
--- the mapping record at place i becomes m
-unfoldable pub putMapping : Table → ℕ → Mapping → Table
-putMapping t i m = record { limit = t .limit; objects = t .objects; mappings = set (t .mappings) i m }
-
--- the mappings of space s that lie wholly inside r are released
-unfoldable pub clearInside : Table → ℕ → Range → Table
-clearInside t s r = record { limit = t .limit; objects = t .objects; mappings = map (release (within s r)) (t .mappings) }
-
-abbrev pub changed : Table → Object → Change → Table
-changed t n Nothing = t
-changed t n (Put i) = putObject t i n
-changed t n (Drop i) = dropSpace t i
-changed t n (Map i m) = putMapping t i m
-changed t n (Clear s r) = clearInside t s r
+-- the mapping records after a change: a space that goes takes its mappings with it; from slot 32 on there is none
+abbrev pub mappingsAfter : Change → List Mapping → List Mapping
+mappingsAfter Nothing ms = ms
+mappingsAfter (Put i) ms = ms
+mappingsAfter (Drop i) ms = cond (leb objectCount i) ms (map (release (ofSpace (i + 1))) ms)
+mappingsAfter (Map i m) ms = set ms i m
+mappingsAfter (Clear s r) ms = map (release (within s r)) ms
 
 unfoldable pub applied : Table → Edit → Table
-applied t e = changed t (e .object) (e .change)
+applied t e = record { limit = t .limit; objects = objectsAfter freeObject (e .object) (e .change) (t .objects); mappings = mappingsAfter (e .change) (t .mappings) }
 
 -- ---- examples: to unfold `applies` is to unfold all that it lists
 
 unfoldable pub applies : Table → Edit → Table
-unfolding applied putObject dropSpace putMapping clearInside release within ofSpace extent inside span lastOf
+unfolding applied release within ofSpace extent inside span lastOf
 applies t e = applied t e
 
 -- a mapping of space s: n bytes at address a
@@ -92,21 +94,21 @@ refused : applied before (refuse 22) ≡ before
 unfolding applies
 refused = refl
 
--- a new object in the record at place 1 has the id 2
-placed-second : placed (some 1) newSpace ≡ accept 2 (Put 1) newSpace
-placed-second = refl
+-- a new object in slot 1 has the id 2
+added-second : added (some 1) newSpace ≡ accept 2 (Put 1) newSpace
+added-second = refl
 
 -- one object record is written
 put-second : applied before (accept 0 (Put 1) freeObject) ≡ tableOf newSpace freeObject (at 1 16 0) (at 1 16 16) (at 2 16 0)
 unfolding applies
 put-second = refl
 
--- the space at place 0, which has the id 1, goes with its mappings; that of space 2 stays
+-- the space in slot 0, which has the id 1, goes with its mappings; that of space 2 stays
 drop-first : applied before (accept 0 (Drop 0) freeObject) ≡ tableOf freeObject newSpace zeroMapping zeroMapping (at 2 16 0)
 unfolding applies
 drop-first = refl
 
--- the last place, and the one after it, which no record has
+-- the last slot, and the one after it, which is none
 drop-last : applied (tableOf newSpace newSpace (at 32 1 0) (at 33 1 0) zeroMapping) (accept 0 (Drop 31) freeObject) ≡ tableOf newSpace newSpace zeroMapping (at 33 1 0) zeroMapping
 unfolding applies
 drop-last = refl

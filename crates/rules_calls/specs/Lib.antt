@@ -17,3 +17,4 @@ pub mod Attach
 pub mod Reach
 pub mod Orders
 pub mod Call
+pub mod Named

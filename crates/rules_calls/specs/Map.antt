@@ -9,22 +9,17 @@ use Rattle.lists.specs.Tests.{onlyIf}
 use Rattle.lists.specs.Checks.{Check, when, first}
 use Rattle.ranges.specs.Ranges.{passes, U64MAX}
 use Rattle.ranges.specs.Pages.{pagesTouched}
+use Rattle.rules_table.specs.Limits.{mostLength}
 use Rattle.rules_table.specs.Flags.{bit, unknown, fixed, writeable, readable}
 use Rattle.rules_table.specs.declared.Object.{Object}
 use Rattle.rules_table.specs.declared.Mapping.{Mapping}
 use Rattle.rules_table.specs.Records.{spaceAt, freeObject, zeroMapping, newSpace, used}
 use Rattle.rules_table.specs.Charge.{charge, freeMapping, freeBacking, backs, mappingPages, backingPages, chargeIn}
 use Rattle.rules_calls.specs.declared.Edit.{Edit}
-use Rattle.rules_calls.specs.Edits.{settle, refuse, accept, noRecord}
+use Rattle.rules_calls.specs.Edits.{settle, refuse, accept, numberIn, noRecord}
 use Rattle.rules_calls.specs.Landing.{placeChecks, placeAt, lands}
 use Rattle.rules_calls.specs.declared.Change.the-variants.{Map}
 use Rattle.wire.specs.Fields.{field}
-use Rattle.rules_table.specs.declared.Table.{Table}
-use Rattle.rules_calls.specs.declared.Answer.{Answer}
-use Rattle.rules_calls.specs.Answers.{outcome, replied}
-use Rattle.rules_calls.specs.declared.Command.the-variants as Named
-use Rattle.rules_calls.specs.Requests.{number}
-use Rattle.rules_calls.specs.Gate.{gateErrno}
 use mathlib.Core.Path.{_≡_, refl}
 use Rattle.lists.specs.Search.{find, seek}
 use Rattle.lists.specs.Below.{sumBelow, lowest}
@@ -49,11 +44,6 @@ mapFields bytes =
 unfoldable pub rightsOf : ℕ → ℕ
 rightsOf flags = onlyIf (writeable flags) 1 + onlyIf (readable flags) 2
 
--- the number that was found, 0 where none was
-abbrev pub numberIn : Option ℕ → ℕ
-numberIn none = 0
-numberIn (some n) = n
-
 -- a new mapping takes the lowest free record; its address is the reply
 abbrev pub mapped : Option ℕ → Mapping → Edit
 mapped none m = refuse 12
@@ -65,7 +55,7 @@ noRight flags = not (writeable flags || readable flags)
 
 -- length 0 or over 2^40
 unfoldable pub wrongLength : ℕ → Bool
-wrongLength n = eqb n 0 || ltb (2 ^ 40) n
+wrongLength n = eqb n 0 || ltb mostLength n
 
 -- a fixed address whose last address is past U64MAX
 unfoldable pub fixedPasses : ℕ → ℕ → ℕ → Bool
@@ -84,11 +74,15 @@ mapNumberChecks os c =
     ∷ when (not (spaceAt os (c .space))) 2
     ∷ []
 
--- the checks on records and charge: equal to the limit is allowed
+-- the charge would pass the limit: equal is allowed
+unfoldable pub overLimit : ℕ → ℕ → ℕ → Bool
+overLimit limit charged pages = ltb limit (charged + pages)
+
+-- the checks on records and charge
 unfoldable pub roomChecks : Option ℕ → ℕ → ℕ → ℕ → List (Check ℕ)
 roomChecks free limit charged pages =
     noRecord free
-    ∷ when (ltb limit (charged + pages)) 12
+    ∷ when (overLimit limit charged pages) 12
     ∷ []
 
 unfoldable pub mapChecks : ℕ → List Object → List Mapping → MapFields → List (Check ℕ)
@@ -98,15 +92,8 @@ mapChecks limit os ms c =
 
 -- the mapping that MAP founds: a backing of its own, and the founding right
 unfoldable pub foundOf : ℕ → ℕ → ℕ → ℕ → ℕ → ℕ → Mapping
-foundOf backing flags s memory n x = record {
-  space = s;
-  rights = rightsOf flags;
-  founder = onlyIf (writeable flags) 1;
-  backing = backing;
-  address = x;
-  length = n;
-  memory = memory;
-}
+foundOf backing flags s memory n x =
+    record { space = s; rights = rightsOf flags; founder = onlyIf (writeable flags) 1; backing = backing; address = x; length = n; memory = memory }
 
 -- with the lowest free backing number, at its place
 unfoldable pub founding : List Object → List Mapping → ℕ → ℕ → ℕ → ℕ → ℕ → Mapping
@@ -116,21 +103,6 @@ unfoldable pub mapEdit : ℕ → List Object → List Mapping → MapFields → 
 mapEdit limit os ms c =
     settle (first (mapChecks limit os ms c) 0) (mapped (freeMapping ms) (founding os ms (c .flags) (c .space) (c .memory) (c .length) (c .address)))
 
--- ---- the command, for any table and any bytes
-
-unfoldable pub mapDecided : Table → List ℕ → Edit
-mapDecided t bytes = mapEdit (t .limit) (t .objects) (t .mappings) (mapFields bytes)
-
-unfoldable pub mapCall : Table → List ℕ → Edit
-mapCall t bytes = settle (gateErrno t (number Named.Map) bytes) (mapDecided t bytes)
-
-unfoldable pub mapAnswer : Table → List ℕ → Answer
-mapAnswer t bytes = outcome t (mapCall t bytes)
-
--- the address is written at offset 32
-unfoldable pub mapBytes : Table → List ℕ → List ℕ
-mapBytes t bytes = replied 8 32 (mapCall t bytes .errno) (mapCall t bytes .value) bytes
-
 -- ---- examples: to unfold `mapping` is to unfold all that it lists
 
 -- the edit by the numbers of the fields
@@ -138,7 +110,7 @@ abbrev editOf : ℕ → List Object → List Mapping → ℕ → ℕ → ℕ →
 editOf limit os ms flags s z memory n x = mapEdit limit os ms (record { flags = flags; space = s; mustBeZero = z; memory = memory; length = n; address = x })
 
 unfoldable pub mapping : ℕ → List Object → List Mapping → ℕ → ℕ → ℕ → ℕ → ℕ → ℕ → Edit
-unfolding lands mapEdit mapChecks mapNumberChecks unknown noRight wrongLength fixedPasses bit spaceAt roomChecks charge chargeIn sumBelow backingPages find backs mappingPages pagesTouched freeMapping used seek freeBacking lowest founding foundOf rightsOf
+unfolding lands mapEdit mapChecks mapNumberChecks unknown noRight wrongLength fixedPasses bit spaceAt roomChecks overLimit charge chargeIn sumBelow backingPages find backs mappingPages pagesTouched freeMapping used seek freeBacking lowest founding foundOf rightsOf
 mapping limit os ms flags s mustBeZero memory n x = editOf limit os ms flags s mustBeZero memory n x
 
 -- the errno of a MAP in a table of the limit 2^36, with space 1 and one free mapping record, by flags, space, reserved field, memory, length and address

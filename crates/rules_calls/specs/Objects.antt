@@ -13,14 +13,7 @@ use Rattle.rules_table.specs.Charge.{freeRecord}
 use Rattle.rules_calls.specs.declared.Change.{Change}
 use Rattle.rules_calls.specs.declared.Change.the-variants.{Put, Drop}
 use Rattle.rules_calls.specs.declared.Edit.{Edit}
-use Rattle.rules_calls.specs.Edits.{settle, accept, placed, noRecord}
-use Rattle.wire.specs.Fields.{field}
-use Rattle.rules_table.specs.declared.Table.{Table}
-use Rattle.rules_calls.specs.declared.Answer.{Answer}
-use Rattle.rules_calls.specs.Answers.{outcome, replied}
-use Rattle.rules_calls.specs.declared.Command.the-variants as Named
-use Rattle.rules_calls.specs.Requests.{number}
-use Rattle.rules_calls.specs.Gate.{gateErrno}
+use Rattle.rules_calls.specs.Edits.{settle, accept, added, noRecord}
 use mathlib.Core.Path.{_≡_, refl}
 use Rattle.rules_table.specs.declared.Attachment.{Attachment}
 use Rattle.rules_table.specs.declared.Attachment.the-variants.{Loose, Attached}
@@ -29,7 +22,7 @@ unfoldable pub allocChecks : List Object → ℕ → List (Check ℕ)
 allocChecks os flags = when (not (eqb flags 0)) 95 ∷ noRecord (freeRecord os) ∷ []
 
 unfoldable pub allocEdit : List Object → ℕ → Edit
-allocEdit os flags = settle (first (allocChecks os flags) 0) (placed (freeRecord os) newSpace)
+allocEdit os flags = settle (first (allocChecks os flags) 0) (added (freeRecord os) newSpace)
 
 -- an attached device, or a space that a device is attached to
 unfoldable pub inUse : List Object → ℕ → Bool
@@ -46,25 +39,6 @@ removal (Device a) i = Put i
 
 unfoldable pub destroyEdit : List Object → ℕ → Edit
 destroyEdit os id = settle (first (destroyChecks os id) 0) (accept 0 (removal (objectAt os id .kind) (id - 1)) freeObject)
-
--- ---- the commands, for any table and any bytes. IOAS_ALLOC: size, flags, out id
-
-unfoldable pub allocCall : Table → List ℕ → Edit
-allocCall t bytes = settle (gateErrno t (number Named.IoasAlloc) bytes) (allocEdit (t .objects) (field 4 bytes 4))
-
-unfoldable pub allocAnswer : Table → List ℕ → Answer
-allocAnswer t bytes = outcome t (allocCall t bytes)
-
--- the id is written at offset 8
-unfoldable pub allocBytes : Table → List ℕ → List ℕ
-allocBytes t bytes = replied 4 8 (allocCall t bytes .errno) (allocCall t bytes .value) bytes
-
--- DESTROY: size, id
-abbrev pub destroyCall : Table → List ℕ → Edit
-destroyCall t bytes = settle (gateErrno t (number Named.Destroy) bytes) (destroyEdit (t .objects) (field 4 bytes 4))
-
-unfoldable pub destroyAnswer : Table → List ℕ → Answer
-destroyAnswer t bytes = outcome t (destroyCall t bytes)
 
 -- ---- examples: to unfold `makes` is to unfold all that it lists
 

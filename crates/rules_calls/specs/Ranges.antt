@@ -1,12 +1,11 @@
 -- IOVA_RANGES: reserved field 95; no space 2; range area shorter than 16 times count 14. The list is what is not reserved, as the fewest ranges,
 -- ascending. Count becomes the full number and alignment is written; as many ranges as count allowed are written; 90 if some had no room.
-use Prim.Native.Nat.{ℕ, _*_, zero, suc}
+use Prim.Native.Nat.{ℕ}
 use mathlib.Core.Path.{_≡_, refl}
 use mathlib.Core.Bool.{Bool, true, not, cond}
 use mathlib.Core.List.{List, [], _∷_}
 use lib.Dec.{ltb, eqb}
 use lib.ListN.{length, take, replicate}
-use lib.IntN.{ℤ}
 use Rattle.lists.specs.Checks.{Check, when, first}
 use Rattle.ranges.specs.declared.Range.{Range}
 use Rattle.ranges.specs.Ranges.{U64MAX, range}
@@ -19,11 +18,7 @@ use Rattle.rules_table.specs.declared.Object.{Object}
 use Rattle.rangelists.specs.Listed.{places, listed, reserved}
 use Rattle.rules_table.specs.Records.{noReserved, noAllowed, spaceAt}
 use Rattle.rules_table.specs.Spaces.{alignment, reservedFor, reservedOf}
-use Rattle.rules_calls.specs.Results.{result}
-use Rattle.rules_table.specs.declared.Table.{Table}
-use Rattle.rules_calls.specs.declared.Command.the-variants as Named
-use Rattle.rules_calls.specs.Requests.{number}
-use Rattle.rules_calls.specs.Gate.{gateErrno}
+use Rattle.rules_calls.specs.Allow.{noRoom}
 
 -- ---- the fields
 pub record RangesFields : Type 0 where
@@ -45,7 +40,7 @@ unfoldable pub rangesChecks : List Object → RangesFields → ℕ → List (Che
 rangesChecks os c room =
     when (not (eqb (c .mustBeZero) 0)) 95
     ∷ when (not (spaceAt os (c .space))) 2
-    ∷ when (ltb room (16 * c .count)) 14
+    ∷ noRoom room (c .count)
     ∷ []
 
 -- 0 and 90 write the reply, the others write nothing
@@ -62,23 +57,12 @@ rangesBytes os space bytes = put 8 (put 4 bytes 8 (length (freeOf os space))) 24
 unfoldable pub rangesArea : List Object → ℕ → ℕ → List ℕ → List ℕ
 rangesArea os space count area = putRanges 0 (take count (freeOf os space)) area
 
--- ---- the command, for any table and any bytes
+-- where there is a reply
+unfoldable pub rangesReplied : List Object → ℕ → List ℕ → List ℕ
+rangesReplied os errno bytes = cond (repliesTo errno) (rangesBytes os (rangesFields bytes .space) bytes) bytes
 
-abbrev pub errnoOr : ℕ → ℕ → ℕ
-errnoOr zero n = n
-errnoOr (suc e) n = suc e
-
-unfoldable pub rangesCall : Table → List ℕ → List ℕ → ℕ
-rangesCall t bytes area = errnoOr (gateErrno t (number Named.IovaRanges) bytes) (rangesErrno (t .objects) (rangesFields bytes) area)
-
-unfoldable pub rangesResult : Table → List ℕ → List ℕ → ℤ
-rangesResult t bytes area = result (rangesCall t bytes area)
-
-unfoldable pub rangesReply : Table → List ℕ → List ℕ → List ℕ
-rangesReply t bytes area = cond (repliesTo (rangesCall t bytes area)) (rangesBytes (t .objects) (rangesFields bytes .space) bytes) bytes
-
-unfoldable pub rangesWritten : Table → List ℕ → List ℕ → List ℕ
-rangesWritten t bytes area = cond (repliesTo (rangesCall t bytes area)) (rangesArea (t .objects) (rangesFields bytes .space) (rangesFields bytes .count) area) area
+unfoldable pub rangesFilled : List Object → ℕ → List ℕ → List ℕ → List ℕ
+rangesFilled os errno bytes area = cond (repliesTo errno) (rangesArea os (rangesFields bytes .space) (rangesFields bytes .count) area) area
 
 -- ---- examples
 

@@ -1,6 +1,6 @@
 -- Reach, read or write: no device 2; not attached 22; length 0: 22; past U64MAX 75; not wholly inside one mapping 14; right missing 1; else memory start +
 -- (address - mapping address).
-use Prim.Native.Nat.{ℕ, zero, suc, _+_, _-_}
+use Prim.Native.Nat.{ℕ, _+_, _-_}
 use mathlib.Core.Bool.{Bool, true, false, not, _&&_}
 use mathlib.Core.List.{List, [], _∷_, _++_, map}
 use mathlib.Core.Option.{Option, none, some}
@@ -13,23 +13,13 @@ use Rattle.rules_table.specs.declared.Kind.{Kind}
 use Rattle.rules_table.specs.declared.Object.{Object}
 use Rattle.rules_table.specs.declared.Mapping.{Mapping}
 use Rattle.rules_table.specs.Records.{objectAt, isDevice, isAttached, homeOf, ofSpace, extent, canWrite, canRead, noReserved, noAllowed, newSpace}
-use Rattle.rules_calls.specs.declared.Reach.{Reach}
-use Rattle.rules_calls.specs.Results.{result}
-use Rattle.rules_calls.specs.Edits.{isNone}
-use Rattle.rules_table.specs.declared.Table.{Table}
-use Rattle.rules_calls.specs.Gate.{tableErrno}
-use Rattle.rules_calls.specs.declared.Reached.{Reached}
+use Rattle.rules_calls.specs.declared.Edit.{Edit}
+use Rattle.rules_calls.specs.Edits.{refuse, tells, settle, isNone}
 use mathlib.Core.Path.{_≡_, refl}
 use Rattle.rules_table.specs.Flags.{bit}
 use Rattle.rules_table.specs.declared.Attachment.{Attachment}
 use Rattle.rules_table.specs.declared.Attachment.the-variants.{Loose, Attached}
 use Rattle.rules_table.specs.declared.Kind.the-variants.{Device}
-
-abbrev pub reachRefused : ℕ → Reach
-reachRefused n = record { errno = n; address = 0 }
-
-abbrev pub reachAt : ℕ → Reach
-reachAt a = record { errno = 0; address = a }
 
 -- the mapping of the space that holds the whole interval
 unfoldable pub around : List Mapping → ℕ → Range → Option Mapping
@@ -64,28 +54,16 @@ abbrev pub memoryAt : ℕ → Option Mapping → ℕ
 memoryAt a none = 0
 memoryAt a (some m) = m .memory + (a - m .address)
 
-abbrev pub reachSettle : ℕ → Reach → Reach
-reachSettle zero r = r
-reachSettle (suc n) r = reachRefused (suc n)
+unfoldable pub reachBy : Kind → ℕ → ℕ → Bool → Option Mapping → Edit
+reachBy k a n write o = settle (first (reachChecks k a n ++ heldChecks write o) 0) (tells (memoryAt a o))
 
-unfoldable pub reachBy : Kind → ℕ → ℕ → Bool → Option Mapping → Reach
-reachBy k a n write o = reachSettle (first (reachChecks k a n ++ heldChecks write o) 0) (reachAt (memoryAt a o))
-
-unfoldable pub reachOf : List Object → List Mapping → ℕ → ℕ → ℕ → Bool → Reach
+-- reach changes nothing: its edit carries the address, and 0 beside a refusal
+unfoldable pub reachOf : List Object → List Mapping → ℕ → ℕ → ℕ → Bool → Edit
 reachOf os ms d a n write = reachBy (objectAt os d .kind) a n write (around ms (homeOf (objectAt os d .kind)) (span a n))
-
--- ---- the call, for any table
-
--- reach gives an address beside its 0, and address 0 beside a refusal; the table is only read
-abbrev pub reachedBy : Reach → Reached
-reachedBy r = record { result = result (r .errno); address = r .address }
-
-unfoldable pub reachCall : Table → ℕ → ℕ → ℕ → Bool → Reached
-reachCall t d a n write = reachedBy (reachSettle (tableErrno t) (reachOf (t .objects) (t .mappings) d a n write))
 
 -- ---- examples: to unfold `reaches` is to unfold all that it lists
 
-unfoldable reaches : List Object → List Mapping → ℕ → ℕ → ℕ → Bool → Reach
+unfoldable pub reaches : List Object → List Mapping → ℕ → ℕ → ℕ → Bool → Edit
 unfolding reachOf reachBy reachChecks heldChecks first objectAt around find ofSpace extent inside span lastOf passes canWrite canRead bit
 reaches os ms d a n write = reachOf os ms d a n write
 
@@ -104,12 +82,12 @@ at s rights n a = record { space = s; rights = rights; founder = 1; backing = 1;
 abbrev errnoOf : List Mapping → ℕ → ℕ → ℕ → ℕ
 errnoOf ms d a n = reachOf objects ms d a n false .errno
 
--- 100 bytes, 16 bytes into the page at 0x2000, for reading: at the same place of the memory; for writing: the page is readable alone, and address 0 stands beside the refusal
-reach-read : reachOf objects (at 2 2 0x1000 0x2000 ∷ []) 3 0x2010 100 false ≡ reachAt 0x10010
+-- 100 bytes, 16 bytes into the page at 0x2000, for reading: at the same place of the memory; for writing: the page is readable alone
+reach-read : reachOf objects (at 2 2 0x1000 0x2000 ∷ []) 3 0x2010 100 false ≡ tells 0x10010
 unfolding reaches
 reach-read = refl
 
-reach-write : reachOf objects (at 2 2 0x1000 0x2000 ∷ []) 3 0x2010 100 true ≡ reachRefused 1
+reach-write : reachOf objects (at 2 2 0x1000 0x2000 ∷ []) 3 0x2010 100 true ≡ refuse 1
 unfolding reaches
 reach-write = refl
 

@@ -16,12 +16,6 @@ use Rattle.rules_calls.specs.declared.Change.the-variants.{Clear}
 use Rattle.rules_calls.specs.declared.Edit.{Edit}
 use Rattle.rules_calls.specs.Edits.{accept, settle, refuse}
 use Rattle.wire.specs.Fields.{field}
-use Rattle.rules_table.specs.declared.Table.{Table}
-use Rattle.rules_calls.specs.declared.Answer.{Answer}
-use Rattle.rules_calls.specs.Answers.{outcome, replied}
-use Rattle.rules_calls.specs.declared.Command.the-variants as Named
-use Rattle.rules_calls.specs.Requests.{number}
-use Rattle.rules_calls.specs.Gate.{gateErrno}
 use mathlib.Core.Path.{_≡_, refl}
 
 -- ---- the fields
@@ -73,21 +67,6 @@ unfoldable pub unmapEdit : List Object → List Mapping → UnmapFields → Edit
 unmapEdit os ms c =
     settle (first (unmapChecks os ms c) 0)
     (accept (removedBytes (c .space) (rangeAsked (c .address) (c .length)) ms) (Clear (c .space) (rangeAsked (c .address) (c .length))) freeObject)
-
--- ---- the command, for any table and any bytes
-
-unfoldable pub unmapDecided : Table → List ℕ → Edit
-unmapDecided t bytes = unmapEdit (t .objects) (t .mappings) (unmapFields bytes)
-
-unfoldable pub unmapCall : Table → List ℕ → Edit
-unmapCall t bytes = settle (gateErrno t (number Named.Unmap) bytes) (unmapDecided t bytes)
-
-unfoldable pub unmapAnswer : Table → List ℕ → Answer
-unmapAnswer t bytes = outcome t (unmapCall t bytes)
-
--- length becomes the bytes removed, at offset 16
-unfoldable pub unmapBytes : Table → List ℕ → List ℕ
-unmapBytes t bytes = replied 8 16 (unmapCall t bytes .errno) (unmapCall t bytes .value) bytes
 
 -- ---- examples: to unfold `removes` is to unfold all that it lists
 

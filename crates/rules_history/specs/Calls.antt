@@ -6,9 +6,7 @@ use lib.IntN.{ℤ}
 use Rattle.rangelists.specs.declared.Reserved.{Reserved}
 use Rattle.rules_table.specs.declared.Table.{Table}
 use Rattle.rules_calls.specs.Call.{callDone}
-use Rattle.rules_calls.specs.Reach.{reachCall}
-use Rattle.rules_calls.specs.Attach.{attachCall, detachCall}
-use Rattle.rules_calls.specs.Bind.{bindCall}
+use Rattle.rules_calls.specs.Named.{reachCall, attachCall, detachCall, bindCall}
 
 -- a call by its arguments: a command with any request number, bytes and range area, or one of the four host calls
 pub data Call : Type 0 where

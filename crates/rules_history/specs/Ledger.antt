@@ -26,12 +26,12 @@ use Rattle.rules_calls.specs.Map.{rightsOf}
 use Rattle.rules_calls.specs.Unmap.{asksAll}
 use Rattle.rules_history.specs.Calls.{Call, Event}
 
--- a mapping that exists. Its founder is the number of the MAP from which it descends, counted from 0 over all calls
+-- a mapping that exists. Its root is the number of the MAP from which it descends, counted from 0 over all calls
 pub record Entry : Type 0 where
   pub space : ℕ
   pub address : ℕ
   pub length : ℕ
-  pub founder : ℕ
+  pub root : ℕ
   pub memory : ℕ
   pub rights : ℕ
 
@@ -56,14 +56,14 @@ empty = record { entries = []; made = []; time = 0; live = λ s. false; accepted
 abbrev pub tick : Ledger → Ledger
 tick l = record { entries = l .entries; made = l .made; time = suc (l .time); live = l .live; accepted = l .accepted; removed = l .removed }
 
--- ---- MAP: an entry with the address written, itself as founder
+-- ---- MAP: an entry with the address written, itself as root
 
 abbrev pub mapEntry : List ℕ → List ℕ → ℕ → Entry
 mapEntry bytes written number = record {
   space = field 4 bytes 8;
   address = field 8 written 32;
   length = field 8 bytes 24;
-  founder = number;
+  root = number;
   memory = field 8 bytes 16;
   rights = rightsOf (field 4 bytes 4);
 }
@@ -78,14 +78,14 @@ withMap bytes written l = record {
   removed = l .removed;
 }
 
--- ---- COPY: likewise for its target, with its source entry's founder
+-- ---- COPY: likewise for its target, with its source entry's root
 
 -- the entry with exactly this address and length in the source space
 unfoldable pub entryIs : ℕ → ℕ → ℕ → Entry → Bool
 entryIs s a n e = eqb (e .space) s && (eqb (e .address) a && eqb (e .length) n)
 
 abbrev pub noEntry : Entry
-noEntry = record { space = 0; address = 0; length = 0; founder = 0; memory = 0; rights = 0 }
+noEntry = record { space = 0; address = 0; length = 0; root = 0; memory = 0; rights = 0 }
 
 abbrev pub orNone : Option Entry → Entry
 orNone none = noEntry
@@ -99,7 +99,7 @@ copyEntry bytes written source = record {
   space = field 4 bytes 8;
   address = field 8 written 24;
   length = field 8 bytes 16;
-  founder = source .founder;
+  root = source .root;
   memory = source .memory;
   rights = rightsOf (field 4 bytes 4);
 }
@@ -215,7 +215,7 @@ ledgerGives l s a y write = any (entryGives s a y write) (l .entries)
 
 -- an accepted MAP of which that mapping, or a copy descended from it, still exists
 unfoldable pub survives : Ledger → Made → Bool
-survives l m = any (λ e. eqb (e .founder) (m .number)) (l .entries)
+survives l m = any (λ e. eqb (e .root) (m .number)) (l .entries)
 
 -- the pages of each such MAP, once and in full
 unfoldable pub ledgerCharge : Ledger → ℕ

@@ -3,6 +3,7 @@ use Prim.Native.Nat.{ℕ}
 use mathlib.Core.List.{List, [], _∷_}
 use lib.ListN.{replicate}
 use Rattle.rules_calls.specs.Results.{result}
+use Rattle.rules_table.specs.Limits.{mappingCount}
 use Rattle.rules_table.specs.declared.Mapping.{Mapping}
 use Rattle.rules_table.specs.declared.Table.{Table}
 use Rattle.rules_table.specs.Records.{zeroMapping}
@@ -51,4 +52,4 @@ lentRun [] l = l
 lentRun (c ∷ cs) l = lentRun cs (lentAfter c l)
 
 abbrev pub lentFresh : ℕ → Lent
-lentFresh limit = record { head = freshHead limit; records = replicate 128 zeroMapping }
+lentFresh limit = record { head = freshHead limit; records = replicate mappingCount zeroMapping }

@@ -8,19 +8,20 @@ use Rattle.alignment.specs.Pages.{smallestPage}
 use Rattle.rangelists.specs.declared.Reserved.{Reserved}
 use Rattle.rangelists.specs.declared.Allowed.{Allowed}
 use Rattle.rangelists.specs.Listed.{reserved, allowed, valid, overlap}
+use Rattle.rules_table.specs.Limits.{mostPage, mostReserved, mostAllowed}
 use Rattle.rules_table.specs.declared.Object.{Object}
 
 -- bitmap 0, or its lowest bit above 4,096: 22; over 4 ranges 22; a start above its last 22
 unfoldable pub bindChecks : ℕ → Reserved → List (Check ℕ)
 bindChecks bitmap l =
-    when (eqb bitmap 0 || ltb 4096 (smallestPage bitmap)) 22
-    ∷ when (ltb 4 (l .count)) 22
+    when (eqb bitmap 0 || ltb mostPage (smallestPage bitmap)) 22
+    ∷ when (ltb mostReserved (l .count)) 22
     ∷ when (not (valid (reserved l))) 22
     ∷ []
 
 -- count over 8: 12
 abbrev pub tooMany : ℕ → Check ℕ
-tooMany count = when (ltb 8 count) 12
+tooMany count = when (ltb mostAllowed count) 12
 
 -- a start above its last, or two ranges that overlap: 22
 abbrev pub badList : Allowed → Check ℕ

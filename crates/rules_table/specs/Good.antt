@@ -1,8 +1,8 @@
 -- A good table: one that is not bad by document 01's paragraph "A table is bad ..". One part for each of its rules, in its order.
 use Prim.Native.Nat.{ℕ, _+_, _^_, min}
 use mathlib.Core.Path.{_≡_, refl}
-use mathlib.Core.Bool.{Bool, true, false, not, _&&_, _||_}
-use mathlib.Core.List.{List, [], _∷_, _++_}
+use mathlib.Core.Bool.{Bool, true, false, not, _&&_, _||_, cond}
+use mathlib.Core.List.{List, _∷_}
 use lib.Dec.{leb, ltb, eqb}
 use lib.ListN.{drop, replicate}
 use lib.Count.{trailingZeros}
@@ -18,15 +18,14 @@ use Rattle.alignment.specs.Pages.{smallestPage}
 use Rattle.alignment.specs.Highest.{highest}
 use Rattle.rangelists.specs.Listed.{places, listed, reserved, allowed, ordered, valid, overlap}
 use Rattle.wire.specs.Fields.{zeros}
+use Rattle.rules_table.specs.Limits.{mostLimit, mostLength, objectCount, mappingCount, mostReserved, mostAllowed}
 use Rattle.rules_table.specs.Flags.{bit}
-use Rattle.rules_table.specs.declared.Attachment.{Attachment}
-use Rattle.rules_table.specs.declared.Attachment.the-variants.{Loose, Attached}
-use Rattle.rules_table.specs.declared.Kind.{Kind}
-use Rattle.rules_table.specs.declared.Kind.the-variants.{Free, Space, Device}
+use Rattle.rules_table.specs.declared.Attachment.the-variants.{Attached}
+use Rattle.rules_table.specs.declared.Kind.the-variants.{Device}
 use Rattle.rules_table.specs.declared.Object.{Object}
 use Rattle.rules_table.specs.declared.Mapping.{Mapping}
 use Rattle.rules_table.specs.declared.Table.{Table}
-use Rattle.rules_table.specs.Records.{noReserved, noAllowed, newSpace, freeObject, zeroMapping, spaceAt, objectAt, used, ofSpace, extent, canWrite}
+use Rattle.rules_table.specs.Records.{noAllowed, newSpace, freeObject, zeroMapping, isSpace, isDevice, isAttached, homeOf, spaceAt, objectAt, used, ofSpace, extent, canWrite}
 use Rattle.rules_table.specs.Spaces.{pageFor, alignment, reservedFor, reservedOf}
 use Rattle.rules_table.specs.Charge.{backs, mappingPages, backingPages, chargeIn, charge}
 use Rattle.rules_table.specs.Fits.{bindChecks, deviceFits, listFits}
@@ -39,17 +38,8 @@ whenUsed p m = not (used m) || p m
 unfoldable pub mappingNames : List Object → Mapping → Bool
 mappingNames os = whenUsed (λ m. spaceAt os (m .space))
 
-abbrev pub namesBy : List Object → Attachment → Bool
-namesBy os Loose = true
-namesBy os (Attached s) = spaceAt os s
-
-abbrev pub kindNames : List Object → Kind → Bool
-kindNames os Free = true
-kindNames os Space = true
-kindNames os (Device a) = namesBy os a
-
 unfoldable pub deviceNames : List Object → Object → Bool
-deviceNames os o = kindNames os (o .kind)
+deviceNames os o = not (isAttached (o .kind)) || spaceAt os (homeOf (o .kind))
 
 -- 2. no two mappings of one space share an address
 unfoldable pub together : Mapping → Mapping → Bool
@@ -60,7 +50,7 @@ apart ms = not (clashes together ms)
 
 -- 3. length from 1 to 2^40, some right, within U64MAX in space and memory, clear of reserved ranges, aligned
 unfoldable pub lengthFits : Mapping → Bool
-lengthFits m = ltb 0 (m .length) && leb (m .length) (2 ^ 40)
+lengthFits m = ltb 0 (m .length) && leb (m .length) mostLength
 
 unfoldable pub rightsFit : Mapping → Bool
 rightsFit m = ltb 0 (m .rights) && leb (m .rights) 3
@@ -91,37 +81,18 @@ writesByRight = whenUsed (λ m. leb (m .founder) 1 && (not (canWrite m) || eqb (
 
 -- 5. fields of a device as bind takes them; an allow list as ALLOW_IOVAS takes it, no range of which touches a reserved range.
 -- The last is asked from the device's side: of each device attached to the space
-abbrev pub deviceBy : Object → Kind → Bool
-deviceBy o Free = true
-deviceBy o Space = true
-deviceBy o (Device a) = deviceFits o
-
 unfoldable pub deviceValid : Object → Bool
-deviceValid o = deviceBy o (o .kind)
-
-abbrev pub listBy : Object → Kind → Bool
-listBy o Free = true
-listBy o Space = listFits o
-listBy o (Device a) = true
+deviceValid o = not (isDevice (o .kind)) || deviceFits o
 
 unfoldable pub listValid : Object → Bool
-listValid o = listBy o (o .kind)
+listValid o = not (isSpace (o .kind)) || listFits o
 
 -- some range of the one list shares an address with some range of the other
 unfoldable pub listsTouch : List Range → List Range → Bool
 listsTouch rs qs = any (λ r. any (share r) qs) rs
 
-abbrev pub clearBy : List Object → Object → Attachment → Bool
-clearBy os o Loose = true
-clearBy os o (Attached s) = not (listsTouch (reserved (o .reserved)) (allowed (objectAt os s .allow)))
-
-abbrev pub listClearBy : List Object → Object → Kind → Bool
-listClearBy os o Free = true
-listClearBy os o Space = true
-listClearBy os o (Device a) = clearBy os o a
-
 unfoldable pub listClear : List Object → Object → Bool
-listClear os o = listClearBy os o (o .kind)
+listClear os o = not (isAttached (o .kind)) || not (listsTouch (reserved (o .reserved)) (allowed (objectAt os (homeOf (o .kind)) .allow)))
 
 -- 6. a released record, a field its kind does not use and an unused place of a list are zero
 unfoldable pub mappingZero : Mapping → Bool
@@ -129,10 +100,10 @@ mappingZero m =
     used m || (eqb (m .rights) 0 && (eqb (m .founder) 0 && (eqb (m .backing) 0 && (eqb (m .address) 0 && (eqb (m .length) 0 && eqb (m .memory) 0)))))
 
 unfoldable pub reservedRest : Object → Bool
-reservedRest o = zeros (drop (min (o .reserved .count) 4) (o .reserved .starts)) && zeros (drop (min (o .reserved .count) 4) (o .reserved .lasts))
+reservedRest o = zeros (drop (min (o .reserved .count) mostReserved) (o .reserved .starts)) && zeros (drop (min (o .reserved .count) mostReserved) (o .reserved .lasts))
 
 unfoldable pub allowRest : Object → Bool
-allowRest o = zeros (drop (min (o .allow .count) 8) (o .allow .starts)) && zeros (drop (min (o .allow .count) 8) (o .allow .lasts))
+allowRest o = zeros (drop (min (o .allow .count) mostAllowed) (o .allow .starts)) && zeros (drop (min (o .allow .count) mostAllowed) (o .allow .lasts))
 
 unfoldable pub noDevice : Object → Bool
 noDevice o = eqb (o .bitmap) 0 && (eqb (o .reserved .count) 0 && reservedRest o)
@@ -140,25 +111,20 @@ noDevice o = eqb (o .bitmap) 0 && (eqb (o .reserved .count) 0 && reservedRest o)
 unfoldable pub noList : Object → Bool
 noList o = eqb (o .allow .count) 0 && allowRest o
 
-abbrev pub zeroBy : Object → Kind → Bool
-zeroBy o Free = noDevice o && noList o
-zeroBy o Space = noDevice o && allowRest o
-zeroBy o (Device a) = reservedRest o && noList o
-
 unfoldable pub objectZero : Object → Bool
-objectZero o = zeroBy o (o .kind)
+objectZero o = cond (isDevice (o .kind)) (reservedRest o) (noDevice o) && cond (isSpace (o .kind)) (allowRest o) (noList o)
 
 -- 7. the mapping records are 128 (and the object records 32)
 unfoldable pub recordsCounted : Table → Bool
-recordsCounted t = eqb (ListN.length (t .mappings)) 128 && eqb (ListN.length (t .objects)) 32
+recordsCounted t = eqb (ListN.length (t .mappings)) mappingCount && eqb (ListN.length (t .objects)) objectCount
 
 -- 8. a backing number is from 1 to 128
 unfoldable pub backingNumber : Mapping → Bool
-backingNumber = whenUsed (λ m. leb 1 (m .backing) && leb (m .backing) 128)
+backingNumber = whenUsed (λ m. leb 1 (m .backing) && leb (m .backing) mappingCount)
 
 -- 9. the limit is at most 2^36 and not below the charge
 unfoldable pub limitHolds : Table → Bool
-limitHolds t = leb (t .limit) (2 ^ 36) && leb (charge (t .mappings)) (t .limit)
+limitHolds t = leb (t .limit) mostLimit && leb (charge (t .mappings)) (t .limit)
 
 unfoldable pub good : Table → Bool
 good t =

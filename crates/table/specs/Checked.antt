@@ -9,17 +9,39 @@ use borrow.Author.Tests.{ne-eqb}
 use native.Mathlib.Omega.{arith}
 use Rattle.lists.specs.Tests.{by-test, same-test, and-left, and-right, and-both}
 use Rattle.lists.specs.Search.{all, all-and}
+use Rattle.rangelists.specs.Listed.{reserved, allowed}
+use Rattle.rules_table.specs.declared.Kind.{Kind}
 use Rattle.rules_table.specs.declared.Object.{Object}
 use Rattle.rules_table.specs.declared.Mapping.{Mapping}
 use Rattle.rules_table.specs.declared.Table.{Table}
-use Rattle.rules_table.specs.Records.{spaceAt, used, canWrite}
+use Rattle.rules_table.specs.Records.{isSpace, isDevice, isAttached, homeOf, objectAt, spaceAt, used, canWrite}
 use Rattle.rules_table.specs.Spaces.{alignment, reservedOf}
+use Rattle.rules_table.specs.Fits.{deviceFits, listFits}
 use Rattle.table.specs.Aligned.{alignment-pos}
-use Rattle.rules_table.specs.Good.{whenUsed, mappingNames, deviceNames, apart, lengthFits, rightsFit, endsFit, clearOf, alignedTo, mappingFits, backingsAgree, writesByRight, deviceValid, listValid, listClear, mappingZero, objectZero, recordsCounted, backingNumber, limitHolds, good}
+use Rattle.rules_table.specs.Good.{whenUsed, mappingNames, deviceNames, apart, lengthFits, rightsFit, endsFit, clearOf, alignedTo, mappingFits, backingsAgree, writesByRight, deviceValid, listValid, listsTouch, listClear, mappingZero, reservedRest, allowRest, noDevice, noList, objectZero, recordsCounted, backingNumber, limitHolds, good}
 
 -- an object against all the rules of objects: itself and the one record that it names
 unfoldable pub objectOk : List Object → Object → Bool
 objectOk os o = deviceNames os o && (deviceValid o && (listValid o && (listClear os o && objectZero o)))
+
+-- the same by the kind, for proofs that go by its cases
+abbrev pub kindNames : List Object → Kind → Bool
+kindNames os k = not (isAttached k) || spaceAt os (homeOf k)
+
+abbrev pub deviceBy : Object → Kind → Bool
+deviceBy o k = not (isDevice k) || deviceFits o
+
+abbrev pub listBy : Object → Kind → Bool
+listBy o k = not (isSpace k) || listFits o
+
+abbrev pub listClearBy : List Object → Object → Kind → Bool
+listClearBy os o k = not (isAttached k) || not (listsTouch (reserved (o .reserved)) (allowed (objectAt os (homeOf k) .allow)))
+
+abbrev pub zeroBy : Object → Kind → Bool
+zeroBy o k = cond (isDevice k) (reservedRest o) (noDevice o) && cond (isSpace k) (allowRest o) (noList o)
+
+abbrev pub objectBy : List Object → Object → Kind → Bool
+objectBy os o k = kindNames os k && (deviceBy o k && (listBy o k && (listClearBy os o k && zeroBy o k)))
 
 unfoldable pub objectsOk : List Object → Bool
 objectsOk os = all (objectOk os) os

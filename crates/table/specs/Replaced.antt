@@ -9,7 +9,7 @@ use lib.ListN.{length, getD, set, List·getD-eq-default}
 use lib.Seq.{getD-set-same, getD-set-other}
 use borrow.Author.Tests.{leb-true, leb-false, eqb-true, eqb-false, eq-eqb, not-true}
 use Rattle.lists.specs.Tests.{by-test, contrary, and-left, and-right}
-use Rattle.lists.specs.Search.{any, all-at, any-place}
+use Rattle.lists.specs.Search.{any, all-at, any-slot}
 use Rattle.lists.specs.Each.{Each, Each-imp, Each-set, Each-at, Each-zip, Each-all, all-Each, Each-any-false}
 use Rattle.rangelists.specs.Listed.{reserved, allowed}
 use Rattle.rules_table.specs.declared.Attachment.the-variants.{Loose, Attached}
@@ -17,14 +17,14 @@ use Rattle.rules_table.specs.declared.Kind.{Kind}
 use Rattle.rules_table.specs.declared.Kind.the-variants.{Free, Space, Device}
 use Rattle.rules_table.specs.declared.Object.{Object}
 use Rattle.rules_table.specs.Records.{zeroObject, freeObject, isSpace, objectAt, spaceAt, attachedTo}
-use Rattle.rules_table.specs.Good.{kindNames, deviceNames, deviceBy, deviceValid, listBy, listValid, listsTouch, listClearBy, listClear, zeroBy, objectZero}
-use Rattle.table.specs.Checked.{objectOk, objectsOk}
+use Rattle.rules_table.specs.Good.{deviceNames, deviceValid, listValid, listsTouch, listClear, objectZero}
+use Rattle.table.specs.Checked.{objectOk, deviceBy, zeroBy, objectBy, objectsOk}
 use Rattle.lists.specs.Ends.{getD-any}
 
 -- the object with the id of a place
-pub objectAt-place : (os : List Object) (i : ℕ) (d : Object) → i < length os → objectAt os (suc i) ≡ getD os i d
+pub objectAt-slot : (os : List Object) (i : ℕ) (d : Object) → i < length os → objectAt os (suc i) ≡ getD os i d
 unfolding objectAt
-objectAt-place os i d h = getD-any os i freeObject d h
+objectAt-slot os i d h = getD-any os i freeObject d h
 
 pub objectAt-past : (os : List Object) (id : ℕ) → length os < id → objectAt os id ≡ freeObject
 unfolding objectAt
@@ -52,18 +52,15 @@ module _ (os : List Object) (i : ℕ) (n : Object) where
   spaceAt-set-same h = ap (λ (o : Object). isSpace (o .kind)) (objectAt-set-same h)
 
 -- an id that is a space has a place
-pub spaceAt-place : (os : List Object) (id : ℕ) → spaceAt os id ≡ true → (i : ℕ) × (id ≡ suc i) × (i < length os)
+pub spaceAt-slot : (os : List Object) (id : ℕ) → spaceAt os id ≡ true → (i : ℕ) × (id ≡ suc i) × (i < length os)
 unfolding spaceAt objectAt
-spaceAt-place os zero e = contrary false e refl
-spaceAt-place os (suc i) e =
+spaceAt-slot os zero e = contrary false e refl
+spaceAt-slot os (suc i) e =
     by-test (leb (length os) i)
     (λ t. contrary false (sym (ap (λ (o : Object). isSpace (o .kind)) (List·getD-eq-default os freeObject (leb-true (length os) i t))) ∙ e) refl)
     (λ t. (i, refl, leb-false (length os) i t))
 
 -- ---- an object that keeps its rules in another list of objects: the space it names is one there, with an allow list that its ranges do not touch
-
-abbrev objectBy : List Object → Object → Kind → Bool
-objectBy os o k = kindNames os k && (deviceBy o k && (listBy o k && (listClearBy os o k && zeroBy o k)))
 
 kept-by : (os qs : List Object) (o : Object) (k : Kind) → objectBy os o k ≡ true
     → ((s : ℕ) → attachedTo s k ≡ true → spaceAt os s ≡ true → (spaceAt qs s ≡ true) × (listsTouch (reserved (o .reserved)) (allowed (objectAt qs s .allow)) ≡ false))
@@ -108,7 +105,7 @@ object-attached os o s e f = attached-by os o (o .kind) s e f
 -- the object at a place keeps the rules
 pub object-at-ok : (os : List Object) (i : ℕ) → i < length os → objectsOk os ≡ true → objectOk os (objectAt os (suc i)) ≡ true
 unfolding objectsOk
-object-at-ok os i h e = rw (objectAt-place os i freeObject h) (all-at (objectOk os) os freeObject e i h)
+object-at-ok os i h e = rw (objectAt-slot os i freeObject h) (all-at (objectOk os) os freeObject e i h)
 
 -- ---- the rule of all objects after a store
 
@@ -117,7 +114,7 @@ pub none-attached : (os : List Object) (s : ℕ) → objectsOk os ≡ true → s
 unfolding objectsOk
 none-attached os s e f =
     by-test (any (λ o. attachedTo s (o .kind)) os)
-    (λ t. let w = any-place (λ (o : Object). attachedTo s (o .kind)) os zeroObject t in
+    (λ t. let w = any-slot (λ (o : Object). attachedTo s (o .kind)) os zeroObject t in
     contrary (spaceAt os s) (object-attached os (getD os (w .0) zeroObject) s (Each-at (λ o. objectOk os o ≡ true) os zeroObject (w .0) (w .1) (Each-all (objectOk os) os e)) (w .2) .0) f)
     (λ t. t)
 

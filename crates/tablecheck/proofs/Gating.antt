@@ -16,7 +16,7 @@ use Rattle.opening.proofs.Lookups.{listed}
 use Rattle.wire.specs.Fields.{put}
 use Rattle.rules_table.specs.declared.Table.{Table}
 use Rattle.rules_table.specs.Good.{good}
-use Rattle.rules_calls.specs.Answers.{outcome, replied}
+use Rattle.rules_calls.specs.Answers.{replied}
 use Rattle.rules_calls.specs.Gate.{gateErrno}
 
 -- ---- the gate

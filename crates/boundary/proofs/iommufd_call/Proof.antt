@@ -57,8 +57,9 @@ use Rattle.rules_calls.specs.declared.Edit.{Edit}
 use Rattle.rules_calls.specs.Gate.{tableWith}
 use Rattle.iommufd.specs.Deciding.{firstId, secondId, Decided}
 use Rattle.rules_table.specs.declared.Head.{Head}
-use Rattle.rules_table.specs.Layout.{decoded, withRecord}
-use Rattle.rules_lent.specs.Records.{stored}
+use Rattle.rules_table.specs.Layout.{decoded}
+use Rattle.lent_head.specs.Head.{withRecord}
+use Rattle.lent_records.specs.Records.{stored}
 use Rattle.lent_calls.specs.declared.Writes.{Writes}
 use Rattle.lent_calls.specs.Lent.{writesOf}
 use Rattle.rules_lent.specs.Entries.{LentCall}

@@ -53,15 +53,15 @@ use Rattle.rules_table.specs.declared.Mapping.{Mapping}
 use Rattle.rules_table.specs.Records.{zeroMapping}
 use Rattle.rules_table.specs.declared.Head.{Head}
 use Rattle.rules_table.specs.Layout.{freshHead}
-use Rattle.rules_lent.specs.declared.Records.the-variants.{Wipe}
+use Rattle.lent_records.specs.declared.Records.the-variants.{Wipe}
 use Rattle.lent_records.specs.Lent.{stored-wipe}
-use Rattle.rules_lent.specs.Records.{stored}
+use Rattle.lent_records.specs.Records.{stored}
 use Rattle.rules_lent.specs.Entries.{LentFresh}
 use Rattle.rules_table.proofs.Head as T
 use Rattle.rules_table.proofs.Head.Laws as T′
 use Rattle.rules_table.proofs.Mapping as P
-use Rattle.rules_lent.proofs.Records as S
-use Rattle.rules_lent.proofs.Records.Laws as S′
+use Rattle.lent_records.proofs.Records as S
+use Rattle.lent_records.proofs.Records.Laws as S′
 use Rattle.layout.proofs.fresh_head as fh
 use Rattle.layout.proofs.fresh_head.Symbol as fh-def
 use Rattle.layout.proofs.fresh_head.Symbol.{name as #layout·fresh-head}

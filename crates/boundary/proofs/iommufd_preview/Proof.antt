@@ -230,7 +230,7 @@ module _ {M : Type 1} (𝓤 : URA M) (H : Heap 𝓤) (A : Atoms 𝓤) (W : Given
   abbrev owned-all : Item 𝓤
   owned-all = ‵ (owns (ShrRef (named 0) κ T.the-row ∷ ShrSlice (named 1) κ₁ R ∷ u32 ∷ MutSlice (named 2) κ₂ u8 ∷ MutSlice (named 3) κ₃ u8 ∷ []) x at)
 
-  exits : (r : ℤ) (v : Val) (cs′ rs′ : List ℕ) → Preview h ys request cs rs r cs′ rs′ → length cs′ ≡ length cs → length rs′ ≡ length rs → Is i32 r (v ∷ [])
+  exits : (r : ℤ) (v : Val) (cs′ rs′ : List ℕ) → Preview h ys request cs rs r h ys cs′ rs′ → length cs′ ≡ length cs → length rs′ ≡ length rs → Is i32 r (v ∷ [])
       → ent 𝓤 (⋆ 𝓤 H A (tokens ∷ ‵ held-head ∷ ‵ held-ms ∷ ‵ (finally u8 γ₂ cs′) ∷ ‵ (finally u8 γ₃ rs′) ∷ [])) (Post v)
   exits r v cs′ rs′ e len₂ len₃ is =
       qed W (tokens ∷ ‵ held-head ∷ ‵ held-ms ∷ ‵ (finally u8 γ₂ cs′) ∷ ‵ (finally u8 γ₃ rs′) ∷ []) ∵
@@ -239,7 +239,7 @@ module _ {M : Type 1} (𝓤 : URA M) (H : Heap 𝓤) (A : Atoms 𝓤) (W : Given
       owned ! i32 (Is i32) (sint-makes 𝓤 H A W w32) r _ is $ done !
 
   -- an exit that has given nothing on
-  exits-kept : (r : ℤ) (v : Val) → Preview h ys request cs rs r cs rs → Is i32 r (v ∷ []) → ent 𝓤 (⋆ 𝓤 H A (tokens ∷ owned-all ∷ [])) (Post v)
+  exits-kept : (r : ℤ) (v : Val) → Preview h ys request cs rs r h ys cs rs → Is i32 r (v ∷ []) → ent 𝓤 (⋆ 𝓤 H A (tokens ∷ owned-all ∷ [])) (Post v)
   exits-kept r v e is =
       qed W (tokens ∷ owned-all ∷ []) ∵ move ! (1 ∷ []) $ fsplit ! $ move ! (1 ∷ []) $ fsplit ! $ move ! (1 ∷ []) $ fsplit ! $ drop ! $ fsplit ! $ use1 W (‵ (finally u8 γ₂ cs)) (left-slice 𝓤 H A W (named 2) κ₂ u8 (cmd γ₂) (s₂ ∷ [])) $
       move ! (1 ∷ []) $ fsplit ! $ use1 W (‵ (finally u8 γ₃ rs)) (left-slice 𝓤 H A W (named 3) κ₃ u8 area (s₃ ∷ [])) $ move ! (1 ∷ []) $ drop ! $
@@ -332,7 +332,7 @@ module _ {M : Type 1} (𝓤 : URA M) (H : Heap 𝓤) (A : Atoms 𝓤) (W : Given
         by ! (exits-kept (negsuc 116) _ (short-preview h ys request cs rs (eqb-false (length ys) 128 e)) is-117)
 
     -- the edit e is decided: its errno is the result
-    ends : (e : Edit) (cs′ rs′ : List ℕ) → Is E.the-row e (edit-val e ∷ []) → length cs′ ≡ length cs → length rs′ ≡ length rs → ((r : ℤ) → r ≡ result (e .errno) → Preview h ys request cs rs r cs′ rs′)
+    ends : (e : Edit) (cs′ rs′ : List ℕ) → Is E.the-row e (edit-val e ∷ []) → length cs′ ≡ length cs → length rs′ ≡ length rs → ((r : ℤ) → r ≡ result (e .errno) → Preview h ys request cs rs r h ys cs′ rs′)
         → Sq W (‵ held-head ∷ ‵ (flft κ q) ∷ ‵ held-ms ∷ lent ∷ ‵ (finally u8 γ₂ cs′) ∷ ‵ (finally u8 γ₃ rs′) ∷ Locals (room word l₁₆) (room small l₁₃) (room small l₁₀) (cell E′.mir l₇ (edit-val e)) (room D′.mir l₆) false []) (runs C Λ En body.t-17 (atRet En Post))
     ends e cs′ rs′ is-e len₂ len₃ shown =
         use0 W (raw (Signed 𝓤 H A at-mem run .pre (to-signed e))) (goes-signed e is-e) $ calls-at ! fm (Signed 𝓤 H A at-mem run) known-signed (to-signed e) (and-then ! (load ! (from ! (fld ! refl (stop !))) (look-in ! 33 (sub ! 0 refl (whole !)))) (no-more !)) (λ w.

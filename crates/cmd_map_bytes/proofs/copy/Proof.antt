@@ -1,5 +1,4 @@
 -- The fields read, decided and replied.
-use Rattle.rules_calls.specs.Gate.{tableWith}
 use Rattle.cmd_map_bytes.proofs.Deciding.{seen-at, copy-fields}
 use borrow.Author.Needs.{needs}
 use Rattle.cmd_map_bytes.proofs.copy.Statement.{statement}
@@ -33,7 +32,7 @@ same-length : tie.Need-same-length
 same-length c = search needs
 
 returns : tie.Need-returns
-returns c = (λ limit os h. copy-fields (tableWith limit os _) _ _ _ _ _ _ _ _ (c .before .before .before .before .before .before .before .before .before .before .before .before .before .before .before .read32 .ensures) (c .before .before .before .before .before .before .before .before .before .before .before .before .before .read322 .ensures) (c .before .before .before .before .before .before .before .before .before .before .before .read64 .ensures) (c .before .before .before .before .before .before .before .before .before .read642 .ensures) (c .before .before .before .before .before .before .before .read323 .ensures) (c .before .before .before .before .before .read643 .ensures) (c .before .before .before .before .decide-copy .ensures os (seen-at os _ _ _ _ _ (c .before .before .before .before .before .before .before .before .before .before .before .before .before .before .before .read32 .ensures) (c .before .before .before .before .before .before .before .read323 .ensures) h)), c .before .before .write-value .ensures)
+returns c = (λ os h. copy-fields os _ _ _ _ _ _ _ _ _ (c .before .before .before .before .before .before .before .before .before .before .before .before .before .before .before .read32 .ensures) (c .before .before .before .before .before .before .before .before .before .before .before .before .before .read322 .ensures) (c .before .before .before .before .before .before .before .before .before .before .before .read64 .ensures) (c .before .before .before .before .before .before .before .before .before .read642 .ensures) (c .before .before .before .before .before .before .before .read323 .ensures) (c .before .before .before .before .before .read643 .ensures) (c .before .before .before .before .decide-copy .ensures os (seen-at os _ _ _ _ _ (c .before .before .before .before .before .before .before .before .before .before .before .before .before .before .before .read32 .ensures) (c .before .before .before .before .before .before .before .read323 .ensures) h)), c .before .before .write-value .ensures)
 
 pub copy-spec : {M : Type 1} → statement M
 copy-spec =

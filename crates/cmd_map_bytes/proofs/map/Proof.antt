@@ -1,6 +1,5 @@
 -- The fields read, decided and replied.
 use mathlib.Core.Path.{refl}
-use Rattle.rules_calls.specs.Gate.{tableWith}
 use Rattle.cmd_map_bytes.proofs.Deciding.{seen-at, map-fields}
 use borrow.Author.Needs.{needs}
 use Rattle.cmd_map_bytes.proofs.map.Statement.{statement}
@@ -34,7 +33,7 @@ same-length : tie.Need-same-length
 same-length c = search needs
 
 returns : tie.Need-returns
-returns c = (λ os b h. map-fields (tableWith _ os _) _ _ _ _ _ _ _ _ (c .before .before .before .before .before .before .before .before .before .before .before .before .before .before .before .read32 .ensures) (c .before .before .before .before .before .before .before .before .before .before .before .before .before .read322 .ensures) (c .before .before .before .before .before .before .before .before .before .before .before .read64 .ensures) (c .before .before .before .before .before .before .before .before .before .read642 .ensures) (c .before .before .before .before .before .before .before .read323 .ensures) (c .before .before .before .before .before .read643 .ensures) (c .before .before .before .before .decide-map .ensures os b (seen-at os _ _ b b _ (c .before .before .before .before .before .before .before .before .before .before .before .before .before .before .before .read32 .ensures) refl h)), c .before .before .write-value .ensures)
+returns c = (λ os b h. map-fields os _ _ _ _ _ _ _ _ _ _ (c .before .before .before .before .before .before .before .before .before .before .before .before .before .before .before .read32 .ensures) (c .before .before .before .before .before .before .before .before .before .before .before .before .before .read322 .ensures) (c .before .before .before .before .before .before .before .before .before .before .before .read64 .ensures) (c .before .before .before .before .before .before .before .before .before .read642 .ensures) (c .before .before .before .before .before .before .before .read323 .ensures) (c .before .before .before .before .before .read643 .ensures) (c .before .before .before .before .decide-map .ensures os b (seen-at os _ _ b b _ (c .before .before .before .before .before .before .before .before .before .before .before .before .before .before .before .read32 .ensures) refl h)), c .before .before .write-value .ensures)
 
 pub map-spec : {M : Type 1} → statement M
 map-spec =

@@ -1,7 +1,6 @@
 -- The fields read, decided and replied.
 use mathlib.Core.Path.{sym, ap, _∙_}
 use Rattle.rules_table.specs.Records.{spaceAt}
-use Rattle.rules_calls.specs.Gate.{tableWith}
 use Rattle.cmd_map_bytes.proofs.Deciding.{unmap-fields}
 use borrow.Author.Needs.{needs}
 use Rattle.cmd_map_bytes.proofs.unmap.Statement.{statement}
@@ -26,7 +25,7 @@ same-length : tie.Need-same-length
 same-length c = search needs
 
 returns : tie.Need-returns
-returns c = (λ limit os k. unmap-fields (tableWith limit os _) _ _ _ _ _ (c .before .before .before .before .before .before .before .before .before .read32 .ensures) (c .before .before .before .before .before .before .before .read64 .ensures) (c .before .before .before .before .before .read642 .ensures) (c .before .before .before .before .decide-unmap .ensures os (k ∙ ap (spaceAt os) (sym (c .before .before .before .before .before .before .before .before .before .read32 .ensures)))), c .before .before .write-value .ensures)
+returns c = (λ os k. unmap-fields os _ _ _ _ _ _ (c .before .before .before .before .before .before .before .before .before .read32 .ensures) (c .before .before .before .before .before .before .before .read64 .ensures) (c .before .before .before .before .before .read642 .ensures) (c .before .before .before .before .decide-unmap .ensures os (k ∙ ap (spaceAt os) (sym (c .before .before .before .before .before .before .before .before .before .read32 .ensures)))), c .before .before .write-value .ensures)
 
 pub unmap-spec : {M : Type 1} → statement M
 unmap-spec =

@@ -10,7 +10,7 @@ use Rattle.edits.proofs.drop_space.Statement.{statement}
 use Rattle.edits.proofs.drop_space.Tie as tie
 
 returns : tie.Need-returns
-returns c = drop-past _ _ (omega arith)
+returns c = drop-past _ _ (search (needs, length-mapped)) (omega arith)
 
 free-object-requires : tie.Need-free-object-requires
 free-object-requires c κs = search needs

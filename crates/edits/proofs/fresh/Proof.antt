@@ -8,14 +8,11 @@ use Rattle.edits.proofs.fresh.Tie as tie
 free-object-requires : tie.Need-free-object-requires
 free-object-requires c κs = search needs
 
-refused-requires : tie.Need-refused-requires
-refused-requires c κs = search needs
-
 returns : tie.Need-returns
-returns c = fresh-refused _ _ _ (omega arith) (fresh-table _ _ (c .before .before .free-object .ensures)) (c .refused .ensures)
+returns c = fresh-refused _ _ _ (omega arith) (fresh-table _ _ (c .before .free-object .ensures)) (search needs)
 
 returns-2 : tie.Need-returns-2
 returns-2 c = fresh-made _ _ _ (omega arith) (fresh-table _ _ (c .before .free-object .ensures)) (search needs)
 
 pub fresh-spec : {M : Type 1} → statement M
-fresh-spec = tie.close (tie.spec free-object-requires refused-requires returns returns-2)
+fresh-spec = tie.close (tie.spec free-object-requires returns returns-2)

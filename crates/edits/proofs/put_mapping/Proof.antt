@@ -1,7 +1,7 @@
 -- A place that no record has changes nothing.
 use native.Mathlib.Omega.{arith}
 use Rattle.lists.specs.Update.{length-mapped}
-use Rattle.rules_calls.specs.Edits.{putMapping}
+use Rattle.rules_calls.specs.Edits.{applied}
 use Rattle.edits.proofs.Storing.{put-mapping-past}
 use borrow.Author.Needs.{needs}
 use Rattle.edits.proofs.put_mapping.Statement.{statement}
@@ -17,7 +17,7 @@ element-set-from-m : tie.Need-element-set-from-m
 element-set-from-m c = search needs
 
 returns-2 : tie.Need-returns-2
-unfolding putMapping
+unfolding applied
 returns-2 c = search needs
 
 pub put-mapping-spec : {M : Type 1} → statement M

@@ -2,7 +2,7 @@
 use native.Mathlib.Omega.{arith}
 use mathlib.Core.Path.{refl}
 use Rattle.lists.specs.Update.{length-mapped}
-use Rattle.rules_calls.specs.Edits.{putObject}
+use Rattle.rules_calls.specs.Edits.{applied}
 use Rattle.edits.proofs.Storing.{put-past}
 use borrow.Author.Needs.{needs}
 use Rattle.edits.proofs.put_object.Statement.{statement}
@@ -18,7 +18,7 @@ element-set-from-object : tie.Need-element-set-from-object
 element-set-from-object c = search (needs, length-mapped)
 
 returns-2 : tie.Need-returns-2
-unfolding putObject
+unfolding applied
 returns-2 c = refl
 
 pub put-object-spec : {M : Type 1} → statement M

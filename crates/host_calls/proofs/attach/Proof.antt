@@ -1,7 +1,5 @@
 -- The edit, applied.
 use mathlib.Core.Path.{_∙_}
-use Rattle.rules_calls.specs.Attach.{attachCall}
-use Rattle.rules_calls.specs.Orders.{hostEdit}
 use borrow.Author.Needs.{needs}
 use Rattle.host_calls.proofs.attach.Statement.{statement}
 use Rattle.host_calls.proofs.attach.Tie as tie
@@ -16,7 +14,6 @@ settled-requires : tie.Need-settled-requires
 settled-requires c κs = search needs
 
 returns : tie.Need-returns
-unfolding attachCall hostEdit
 returns c = c .settled .ensures ∙ rw (c .before .decided .ensures, c .before .before .attach-order .ensures)
 
 pub attach-spec : {M : Type 1} → statement M

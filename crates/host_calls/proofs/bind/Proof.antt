@@ -1,7 +1,6 @@
 -- The id of the new device.
 use mathlib.Core.Path.{ap, _∙_}
 use Rattle.lists.specs.Update.{length-mapped}
-use Rattle.rules_calls.specs.Bind.{bindCall}
 use Rattle.rules_calls.specs.Orders.{hostEdit}
 use Rattle.host_calls.proofs.Guarding.{bind-value}
 use borrow.Author.Needs.{needs}
@@ -18,7 +17,6 @@ settled-id-requires : tie.Need-settled-id-requires
 settled-id-requires c κs = bind-value (c .before .before .args .t) _ _ _ (search (needs, length-mapped)) (c .decided .ensures ∙ ap (hostEdit _) (c .before .bind-order .ensures))
 
 returns : tie.Need-returns
-unfolding bindCall hostEdit
 returns c = c .settled-id .ensures ∙ rw (c .before .decided .ensures, c .before .before .bind-order .ensures)
 
 pub bind-spec : {M : Type 1} → statement M

@@ -42,9 +42,6 @@ enum-known-act c = search needs
 reach-of-requires : tie.Need-reach-of-requires
 reach-of-requires c κs = (c .before .before .before .before .before .before .pre .objects, good-records _ (c .before .before .before .before .before .before .pre .objects) _ (sym (c .before .before .before .before .before .is-good .ensures (c .before .before .before .before .before .before .pre .objects) (c .before .before .before .before .before .before .pre .a) (c .before .before .before .before .before .before .pre .b) (c .before .before .before .before .before .before .pre .many) (c .before .before .before .before .before .before .pre .digest)) ∙ not-false _ (c .before .before .before .before .if1 .left)))
 
-tell-requires : tie.Need-tell-requires
-tell-requires c κs = search needs
-
 enum-told-4 : tie.Need-enum-told-4
 enum-told-4 c = search needs
 
@@ -54,8 +51,8 @@ charged-of-requires c κs = records-numbered (c .before .before .before .before 
 charge-in-requires : tie.Need-charge-in-requires
 charge-in-requires c κs = search needs
 
-tell-requires-2 : tie.Need-tell-requires-2
-tell-requires-2 c κs = search needs
+tell-requires : tie.Need-tell-requires
+tell-requires c κs = search needs
 
 returns-2 : tie.Need-returns-2
 returns-2 c = λ os l h. let s = good-seen _ os _ _ _ (c .before .before .before .before .before .before .before .args .d) (sym (c .before .before .before .before .before .before .is-good .ensures os (c .before .before .before .before .before .before .before .args .o .first) (c .before .before .before .before .before .before .before .args .o .second) l h) ∙ not-false _ (c .before .before .before .before .before .if1 .left)) h in host-good (tableWith _ os _) _ _ _ (sym (c .before .before .before .before .before .before .is-good .ensures os (c .before .before .before .before .before .before .before .args .o .first) (c .before .before .before .before .before .before .before .args .o .second) l h) ∙ not-false _ (c .before .before .before .before .before .if1 .left)) (c .before .before .enum-told .given .1) (c .decide-bind .ensures os l (s .free))
@@ -67,10 +64,10 @@ returns-4 : tie.Need-returns-4
 returns-4 c = λ os l h. let s = good-seen _ os _ _ _ (c .before .before .before .before .before .before .args .d) (sym (c .before .before .before .before .before .is-good .ensures os (c .before .before .before .before .before .before .args .o .first) (c .before .before .before .before .before .before .args .o .second) l h) ∙ not-false _ (c .before .before .before .before .if1 .left)) h in host-good (tableWith _ os _) _ _ _ (sym (c .before .before .before .before .before .is-good .ensures os (c .before .before .before .before .before .before .args .o .first) (c .before .before .before .before .before .before .args .o .second) l h) ∙ not-false _ (c .before .before .before .before .if1 .left)) (c .before .enum-told3 .given .1) (c .decide-detach .ensures os (s .first))
 
 returns-5 : tie.Need-returns-5
-returns-5 c = λ os l h. let s = good-seen _ os _ _ _ (c .before .before .before .before .before .before .before .before .args .d) (sym (c .before .before .before .before .before .before .before .is-good .ensures os (c .before .before .before .before .before .before .before .before .args .o .first) (c .before .before .before .before .before .before .before .before .args .o .second) l h) ∙ not-false _ (c .before .before .before .before .before .before .if1 .left)) h in host-good (tableWith _ os _) _ _ _ (sym (c .before .before .before .before .before .before .before .is-good .ensures os (c .before .before .before .before .before .before .before .before .args .o .first) (c .before .before .before .before .before .before .before .before .args .o .second) l h) ∙ not-false _ (c .before .before .before .before .before .before .if1 .left)) (c .before .before .before .act .given .1) (c .tell .ensures ∙ rw (c .before .reach-of .ensures os _ (s .first)))
+returns-5 c = λ os l h. let s = good-seen _ os _ _ _ (c .before .before .before .before .before .before .before .args .d) (sym (c .before .before .before .before .before .before .is-good .ensures os (c .before .before .before .before .before .before .before .args .o .first) (c .before .before .before .before .before .before .before .args .o .second) l h) ∙ not-false _ (c .before .before .before .before .before .if1 .left)) h in host-good (tableWith _ os _) _ _ _ (sym (c .before .before .before .before .before .before .is-good .ensures os (c .before .before .before .before .before .before .before .args .o .first) (c .before .before .before .before .before .before .before .args .o .second) l h) ∙ not-false _ (c .before .before .before .before .before .if1 .left)) (c .before .before .act .given .1) (c .reach-of .ensures os _ (s .first))
 
 returns-6 : tie.Need-returns-6
-returns-6 c = λ os l h. host-good (tableWith _ os _) _ _ _ (sym (c .before .before .before .before .before .before .before .is-good .ensures os (c .before .before .before .before .before .before .before .before .args .o .first) (c .before .before .before .before .before .before .before .before .args .o .second) l h) ∙ not-false _ (c .before .before .before .before .before .before .if1 .left)) (c .before .before .before .enum-told4 .given .1) (c .tell2 .ensures ∙ rw (c .before .charge-in .ensures, c .before .before .charged-of .ensures, charge-is (tableWith _ os _) (sym (c .before .before .before .before .before .before .before .is-good .ensures os (c .before .before .before .before .before .before .before .before .args .o .first) (c .before .before .before .before .before .before .before .before .args .o .second) l h) ∙ not-false _ (c .before .before .before .before .before .before .if1 .left))))
+returns-6 c = λ os l h. host-good (tableWith _ os _) _ _ _ (sym (c .before .before .before .before .before .before .before .is-good .ensures os (c .before .before .before .before .before .before .before .before .args .o .first) (c .before .before .before .before .before .before .before .before .args .o .second) l h) ∙ not-false _ (c .before .before .before .before .before .before .if1 .left)) (c .before .before .before .enum-told4 .given .1) (c .tell .ensures ∙ rw (c .before .charge-in .ensures, c .before .before .charged-of .ensures, charge-is (tableWith _ os _) (sym (c .before .before .before .before .before .before .before .is-good .ensures os (c .before .before .before .before .before .before .before .before .args .o .first) (c .before .before .before .before .before .before .before .before .args .o .second) l h) ∙ not-false _ (c .before .before .before .before .before .before .if1 .left))))
 
 pub decide-spec : {M : Type 1} → statement M
 decide-spec =
@@ -87,11 +84,10 @@ decide-spec =
     decide-detach-requires
     enum-known-act
     reach-of-requires
-    tell-requires
     enum-told-4
     charged-of-requires
     charge-in-requires
-    tell-requires-2
+    tell-requires
     returns-2
     returns-3
     returns-4

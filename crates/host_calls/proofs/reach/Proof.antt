@@ -16,7 +16,7 @@ signed-result-requires : tie.Need-signed-result-requires
 signed-result-requires c κs = search needs
 
 returns : tie.Need-returns
-returns c = reach-is _ _ _ _ _ _ _ (c .before .decided .ensures ∙ ap (hostEdit _) (c .before .before .reach-order .ensures)) (search needs ∙ c .signed-result .ensures)
+returns c = reach-is _ _ _ _ (c .before .decided .ensures ∙ ap (hostEdit _) (c .before .before .reach-order .ensures)) (search needs ∙ c .signed-result .ensures)
 
 pub reach-spec : {M : Type 1} → statement M
 reach-spec =

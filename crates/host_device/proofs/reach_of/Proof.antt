@@ -12,8 +12,11 @@ use Rattle.host_device.proofs.reach_of.Tie as tie
 reach-errno-requires : tie.Need-reach-errno-requires
 reach-errno-requires c κs = search needs
 
+refusal-requires : tie.Need-refusal-requires
+refusal-requires c κs = search needs
+
 returns : tie.Need-returns
-returns c = λ os d e. reach-refused os _ d _ _ _ _ e _ (c .before .reach-errno .ensures) (c .if1 .taken)
+returns c = λ os d e. c .refusal .ensures ∙ reach-refused os _ d _ _ _ _ e _ (c .before .before .reach-errno .ensures) (c .before .if1 .taken)
 
 home-of-requires : tie.Need-home-of-requires
 home-of-requires c κs = search needs
@@ -30,8 +33,11 @@ enum-known-f c = search needs
 enum-told : tie.Need-enum-told
 enum-told c = search needs
 
+refusal-requires-2 : tie.Need-refusal-requires-2
+refusal-requires-2 c κs = search needs
+
 returns-2 : tie.Need-returns-2
-returns-2 c = λ os d e. reach-nowhere os _ d _ _ _ _ e _ (c .before .before .before .before .before .before .reach-errno .ensures) _ _ _ (omega arith) (c .before .before .before .before .home-of .ensures) (c .before .before .before .span-of .ensures) (c .before .before .find-around .ensures) (c .enum-told .given .1)
+returns-2 c = λ os d e. c .refusal2 .ensures ∙ reach-nowhere os _ d _ _ _ _ e _ (c .before .before .before .before .before .before .before .reach-errno .ensures) _ _ _ (omega arith) (c .before .before .before .before .before .home-of .ensures) (c .before .before .before .before .span-of .ensures) (c .before .before .before .find-around .ensures) (c .before .enum-told .given .1)
 
 reach-in-requires : tie.Need-reach-in-requires
 reach-in-requires c κs = let s = c .before .before .before .before .before .before .before .before in around-fits (s .pre .0) _ _ _ _ _ (c .before .before .before .find-around .ensures ∙ ap (λ (r : Range). held (around (s .args .ms) (c .before .before .before .before .before .home-of .result) r)) (c .before .before .before .before .span-of .ensures)) _ (c .before .f .given .1) (omega arith) (s .pre .1)
@@ -44,12 +50,14 @@ reach-of-spec =
     tie.close
     (tie.spec
     reach-errno-requires
+    refusal-requires
     returns
     home-of-requires
     span-of-requires
     find-around-requires
     enum-known-f
     enum-told
+    refusal-requires-2
     returns-2
     reach-in-requires
     returns-3)

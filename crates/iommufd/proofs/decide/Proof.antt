@@ -112,7 +112,7 @@ same-length-6 : tie.Need-same-length-6
 same-length-6 c = search needs
 
 returns-6 : tie.Need-returns-6
-returns-6 c = λ os l h. copy-arm _ os _ _ _ _ (c .before .before .before .before .before .before .before .before .before .before .before .before .before .before .before .before .args .d) _ (sym (c .before .before .before .before .before .before .before .before .before .before .before .before .before .is-good .ensures os _ _ l h) ∙ not-false _ (c .before .before .before .before .before .before .before .before .before .before .before .before .if1 .left)) (good-seen _ os _ _ _ (c .before .before .before .before .before .before .before .before .before .before .before .before .before .before .before .before .args .d) (sym (c .before .before .before .before .before .before .before .before .before .before .before .before .before .is-good .ensures os _ _ l h) ∙ not-false _ (c .before .before .before .before .before .before .before .before .before .before .before .before .if1 .left)) h) _ (is-open _ _ _ _ _ (c .before .before .before .before .before .before .before .before .before .before .«open» .ensures) (c .before .before .before .before .before .before .before .before .before .opening-errno .ensures) (c .before .before .before .before .before .before .before .before .if2 .left) (c .before .before .before .before .before .before .command-in .ensures) (c .before .before .before .before .enum-told4 .given .1)) (λ p. c .before .before .copy .ensures .0 _ os p) (c .before .before .copy .ensures .1)
+returns-6 c = λ os l h. copy-arm _ os _ _ _ _ (c .before .before .before .before .before .before .before .before .before .before .before .before .before .before .before .before .args .d) _ (sym (c .before .before .before .before .before .before .before .before .before .before .before .before .before .is-good .ensures os _ _ l h) ∙ not-false _ (c .before .before .before .before .before .before .before .before .before .before .before .before .if1 .left)) (good-seen _ os _ _ _ (c .before .before .before .before .before .before .before .before .before .before .before .before .before .before .before .before .args .d) (sym (c .before .before .before .before .before .before .before .before .before .before .before .before .before .is-good .ensures os _ _ l h) ∙ not-false _ (c .before .before .before .before .before .before .before .before .before .before .before .before .if1 .left)) h) _ (is-open _ _ _ _ _ (c .before .before .before .before .before .before .before .before .before .before .«open» .ensures) (c .before .before .before .before .before .before .before .before .before .opening-errno .ensures) (c .before .before .before .before .before .before .before .before .if2 .left) (c .before .before .before .before .before .before .command-in .ensures) (c .before .before .before .before .enum-told4 .given .1)) (λ p. c .before .before .copy .ensures .0 os p) (c .before .before .copy .ensures .1)
 
 same-length-7 : tie.Need-same-length-7
 same-length-7 c = search needs
@@ -133,7 +133,7 @@ same-length-10 : tie.Need-same-length-10
 same-length-10 c = search needs
 
 returns-9 : tie.Need-returns-9
-returns-9 c = λ os l h. unmap-arm _ os _ _ _ _ (c .before .before .before .before .before .before .before .before .before .before .before .before .before .before .before .before .before .args .d) _ (sym (c .before .before .before .before .before .before .before .before .before .before .before .before .before .before .is-good .ensures os _ _ l h) ∙ not-false _ (c .before .before .before .before .before .before .before .before .before .before .before .before .before .if1 .left)) (good-seen _ os _ _ _ (c .before .before .before .before .before .before .before .before .before .before .before .before .before .before .before .before .before .args .d) (sym (c .before .before .before .before .before .before .before .before .before .before .before .before .before .before .is-good .ensures os _ _ l h) ∙ not-false _ (c .before .before .before .before .before .before .before .before .before .before .before .before .before .if1 .left)) h) _ _ (is-open _ _ _ _ _ (c .before .before .before .before .before .before .before .before .before .before .before .«open» .ensures) (c .before .before .before .before .before .before .before .before .before .before .opening-errno .ensures) (c .before .before .before .before .before .before .before .before .before .if2 .left) (c .before .before .before .before .before .before .before .command-in .ensures) (c .before .before .before .before .before .enum-told7 .given .1)) (c .before .before .before .before .is-space .ensures) (λ p. c .before .before .unmap .ensures .0 _ os p) (c .before .before .unmap .ensures .1)
+returns-9 c = λ os l h. unmap-arm _ os _ _ _ _ (c .before .before .before .before .before .before .before .before .before .before .before .before .before .before .before .before .before .args .d) _ (sym (c .before .before .before .before .before .before .before .before .before .before .before .before .before .before .is-good .ensures os _ _ l h) ∙ not-false _ (c .before .before .before .before .before .before .before .before .before .before .before .before .before .if1 .left)) (good-seen _ os _ _ _ (c .before .before .before .before .before .before .before .before .before .before .before .before .before .before .before .before .before .args .d) (sym (c .before .before .before .before .before .before .before .before .before .before .before .before .before .before .is-good .ensures os _ _ l h) ∙ not-false _ (c .before .before .before .before .before .before .before .before .before .before .before .before .before .if1 .left)) h) _ _ (is-open _ _ _ _ _ (c .before .before .before .before .before .before .before .before .before .before .before .«open» .ensures) (c .before .before .before .before .before .before .before .before .before .before .opening-errno .ensures) (c .before .before .before .before .before .before .before .before .before .if2 .left) (c .before .before .before .before .before .before .before .command-in .ensures) (c .before .before .before .before .before .enum-told7 .given .1)) (c .before .before .before .before .is-space .ensures) (λ p. c .before .before .unmap .ensures .0 os p) (c .before .before .unmap .ensures .1)
 
 pub decide-spec : {M : Type 1} → statement M
 decide-spec =

@@ -51,14 +51,15 @@ use Rattle.walks.specs.Test.{takes, passes}
 use Rattle.rules_table.specs.declared.Object.{Object}
 use Rattle.rules_table.specs.declared.Mapping.{Mapping}
 use Rattle.rules_table.specs.declared.Head.{Head}
-use Rattle.rules_table.specs.Layout.{decoded, withRecord}
+use Rattle.rules_table.specs.Layout.{decoded}
+use Rattle.lent_head.specs.Head.{withRecord}
 use Rattle.digests.specs.declared.Digest.{Digest}
 use Rattle.digests.specs.Digest.{DigestOf}
 use Rattle.rules_calls.specs.Gate.{tableWith}
 use Rattle.rules_calls.specs.declared.Edit.{Edit}
 use Rattle.rules_calls.specs.declared.Order.{Order}
 use Rattle.rules_calls.specs.Orders.{hostEdit}
-use Rattle.rules_lent.specs.Records.{stored}
+use Rattle.lent_records.specs.Records.{stored}
 use Rattle.lent_calls.specs.declared.Writes.{Writes}
 use Rattle.lent_calls.specs.Lent.{writesOf}
 use Rattle.rules_lent.specs.Entries.{LentHost, hostResult}

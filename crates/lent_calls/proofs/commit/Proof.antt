@@ -39,15 +39,15 @@ use denote.Triple.Walked.{says, needs, Stays, stay-none, gave-ref, gave-slice, w
 use denote.Exit.{yes}
 use Rattle.rules_table.specs.declared.Mapping.{Mapping}
 use Rattle.rules_table.specs.declared.Head.{Head}
-use Rattle.rules_table.specs.Layout.{withRecord}
-use Rattle.rules_lent.specs.Records.{stored}
+use Rattle.lent_head.specs.Head.{withRecord}
+use Rattle.lent_records.specs.Records.{stored}
 use Rattle.lent_calls.specs.declared.Writes.{Writes}
 use Rattle.rules_table.proofs.Head as T
 use Rattle.rules_table.proofs.RawObject as O
 use Rattle.rules_table.proofs.RawObject.Laws as O′
 use Rattle.rules_table.proofs.Mapping as P
-use Rattle.rules_lent.proofs.Records as S
-use Rattle.rules_lent.proofs.Records.Laws as S′
+use Rattle.lent_records.proofs.Records as S
+use Rattle.lent_records.proofs.Records.Laws as S′
 use Rattle.lent_calls.proofs.Writes as N
 use Rattle.lent_calls.proofs.Writes.Laws as N′
 use Rattle.lent_head.proofs.put_object as pb

@@ -196,7 +196,7 @@ module _ {M : Type 1} (𝓤 : URA M) (H : Heap 𝓤) (A : Atoms 𝓤) (W : Given
   abbrev owned-all : Item 𝓤
   owned-all = ‵ (owns (ShrRef (named 0) κ T.the-row ∷ ShrSlice (named 1) κ₁ R ∷ O.the-row ∷ []) x at)
 
-  exits : (r : Number) (w : Val) → LentTold h ys c r → ent 𝓤 (⋆ 𝓤 H A (tokens ∷ owned-all ∷ ‵ (N.the-row .own r (w ∷ [])) ∷ [])) (Post w)
+  exits : (r : Number) (w : Val) → LentTold h ys c r h ys → ent 𝓤 (⋆ 𝓤 H A (tokens ∷ owned-all ∷ ‵ (N.the-row .own r (w ∷ [])) ∷ [])) (Post w)
   exits r w e =
       qed W (tokens ∷ owned-all ∷ ‵ (N.the-row .own r (w ∷ [])) ∷ []) ∵
       suffices ! _ (ends-at 𝓤 H A f.ended stayed (f.clauses 𝓤 H A at-mem run) W (((κ, (κ₁, tt)), (q, (q₁, tt)), tt, x, at), tt) w r (tt, (tt, (tt, tt))) (tt, (tt, (tt, tt)))) $ says ! e $
@@ -206,7 +206,7 @@ module _ {M : Type 1} (𝓤 : URA M) (H : Heap 𝓤) (A : Atoms 𝓤) (W : Given
   exits-short l =
       qed W (tokens ∷ owned-all ∷ []) ∵ owned ! N.the-row (Is N.the-row) (LL.makes N.the-type N′.the-plain 𝓤 H A) short _ is-short $ move ! (1 ∷ 2 ∷ 0 ∷ []) $ by ! (exits short short-val (short-told h ys c l))
 
-  exits-told : (r : Number) (w : Val) → LentTold h ys c r → ent 𝓤 (⋆ 𝓤 H A (‵ (N.the-row .own r (w ∷ [])) ∷ lent ∷ ‵ held-ms ∷ ‵ rest ∷ ‵ (flft κ q) ∷ ‵ held ∷ [])) (Post w)
+  exits-told : (r : Number) (w : Val) → LentTold h ys c r h ys → ent 𝓤 (⋆ 𝓤 H A (‵ (N.the-row .own r (w ∷ [])) ∷ lent ∷ ‵ held-ms ∷ ‵ rest ∷ ‵ (flft κ q) ∷ ‵ held ∷ [])) (Post w)
   exits-told r w e =
       qed W (‵ (N.the-row .own r (w ∷ [])) ∷ lent ∷ ‵ held-ms ∷ ‵ rest ∷ ‵ (flft κ q) ∷ ‵ held ∷ []) ∵
       move ! (2 ∷ 3 ∷ []) $ fjoin ! $ move ! (4 ∷ 0 ∷ []) $ fjoin ! $ move ! (3 ∷ 2 ∷ []) $ join ! $ by ! (exits r w e)

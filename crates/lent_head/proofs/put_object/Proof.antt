@@ -41,7 +41,8 @@ use denote.Triple.Table.{entered}
 use denote.Triple.Walked.{says, Stays, stay-ref, stay-none, walkOf, goes-ref, goes-none, Walks, ends-at, walked, walk-meets}
 use denote.Exit.{yes}
 use borrow.Author.Tests.{ltb-true, ltb-false}
-use Rattle.rules_table.specs.Layout.{zeroRaw, withRecord}
+use Rattle.rules_table.specs.Layout.{zeroRaw}
+use Rattle.lent_head.specs.Head.{withRecord}
 use Rattle.rules_table.specs.declared.Head.{Head}
 use Rattle.rules_table.specs.declared.RawObject.{RawObject}
 use Rattle.rules_table.proofs.Head as T

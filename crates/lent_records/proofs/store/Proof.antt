@@ -51,15 +51,15 @@ use borrow.Author.Tests.{lt-ltb, le-ltb}
 use Rattle.rules_table.specs.declared.Mapping.{Mapping}
 use Rattle.rules_table.specs.Records.{zeroMapping}
 use Rattle.lent_records.specs.Lent.{next-changed, next-kept, stored-length, stored-at}
-use Rattle.rules_lent.specs.Records.{changes, becomes, stored}
-use Rattle.rules_lent.specs.declared.Records.{Records}
+use Rattle.lent_records.specs.Records.{changes, becomes, stored}
+use Rattle.lent_records.specs.declared.Records.{Records}
 use Rattle.walks.specs.Stores.{stores, stores-none, stores-next, stores-length, stores-all, stores-rest, stores-same}
 use Rattle.walks.specs.Test.{takes, passes}
 use Rattle.walks.specs.Turns.{Upto, Nearer, Nearer-wf}
 use Rattle.rules_table.proofs.Mapping as T
 use Rattle.rules_table.proofs.Mapping.Laws as T′
-use Rattle.rules_lent.proofs.Records as S
-use Rattle.rules_lent.proofs.Records.Laws as S′
+use Rattle.lent_records.proofs.Records as S
+use Rattle.lent_records.proofs.Records.Laws as S′
 use Rattle.lent_records.proofs.new_record as nr
 use Rattle.lent_records.proofs.new_record.Symbol as nr-def
 use Rattle.lent_records.proofs.new_record.Symbol.{name as #lent_records·new-record}

@@ -4,9 +4,6 @@ use Rattle.objects.proofs.Passing.{free-here}
 use borrow.Author.Needs.{needs}
 use Rattle.objects.proofs.free_after.Statement.{statement}
 use Rattle.objects.proofs.free_after.Tie as tie
-use Rattle.objects.proofs.free_after.Reads as reads
-use Rattle.objects.proofs.free_after.Lts as lts
-use Rattle.table.proofs.is_free.Reads as is-free-reads
 
 -- src/lib.rt:235:25
 enum-told : tie.Need-enum-told

@@ -1,5 +1,4 @@
 -- The tests in order.
-use mathlib.Core.Path.{_∙_}
 use Rattle.table.specs.Fitting.{list-fits}
 use borrow.Author.Needs.{needs}
 use Rattle.objects.proofs.list_valid.Statement.{statement}

@@ -2,8 +2,8 @@
 use native.Mathlib.Omega.{arith}
 use Rattle.edits.proofs.Looking.{free-below, placed-at, placed-nowhere}
 use borrow.Author.Needs.{needs}
-use Rattle.edits.proofs.place_new.Statement.{statement}
-use Rattle.edits.proofs.place_new.Tie as tie
+use Rattle.edits.proofs.add_new.Statement.{statement}
+use Rattle.edits.proofs.add_new.Tie as tie
 
 enum-known-free : tie.Need-enum-known-free
 enum-known-free c = search needs
@@ -32,8 +32,8 @@ acceptance-requires c κs = search needs
 returns-3 : tie.Need-returns-3
 returns-3 c = λ os l e. placed-at os _ e _ _ _ (c .before .before .before .free .given .1) (c .acceptance .ensures)
 
-pub place-new-spec : {M : Type 1} → statement M
-place-new-spec =
+pub add-new-spec : {M : Type 1} → statement M
+add-new-spec =
     tie.close
     (tie.spec
     enum-known-free
