@@ -6,15 +6,16 @@ use Rattle.rules_calls.specs.Results.{result}
 use Rattle.rules_table.specs.Limits.{mappingCount}
 use Rattle.rules_table.specs.declared.Mapping.{Mapping}
 use Rattle.rules_table.specs.declared.Table.{Table}
-use Rattle.rules_table.specs.Records.{zeroMapping}
+use Rattle.rules_table.specs.Records.{zeroMapping, freshTable}
 use Rattle.rules_calls.specs.declared.Edit.{Edit}
 use Rattle.rules_calls.specs.Orders.{bindOrder, attachOrder, detachOrder, reachOrder, hostEdit}
 use Rattle.rules_calls.specs.Call.{callDone, callEdit}
 use Rattle.rules_history.specs.Calls.{Call, Reply, Event}
 use Rattle.rules_table.specs.declared.Head.{Head}
-use Rattle.rules_table.specs.Layout.{tableOf, freshHead}
+use Rattle.rules_table.specs.Layout.{tableOf, freshHead, encoded, decoded}
 use Rattle.rules_lent.specs.Lent.{headAfter, recordsAfter}
 use Rattle.rules_lent.specs.Entries.{hostResult, toldBy}
+use mathlib.Core.Path.{_≡_, refl}
 
 -- a table in the caller's memory, and the table that it stands for
 pub record Lent : Type 0 where
@@ -53,3 +54,9 @@ lentRun (c ∷ cs) l = lentRun cs (lentAfter c l)
 
 abbrev pub lentFresh : ℕ → Lent
 lentFresh limit = record { head = freshHead limit; records = replicate mappingCount zeroMapping }
+
+-- ---- examples: a fresh table in the caller's memory stands for a fresh table
+
+fresh-lent : lentTable (lentFresh 4) ≡ freshTable 4
+unfolding tableOf freshHead freshTable encoded decoded
+fresh-lent = refl
