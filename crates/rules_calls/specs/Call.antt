@@ -13,7 +13,7 @@ use Rattle.rules_calls.specs.Answers.{outcome, replied}
 use Rattle.rules_calls.specs.Gate.{gateErrno, gates}
 use Rattle.rules_calls.specs.Ranges.{rangesFields, freeOf, rangesChecks, rangesErrno, rangesBytes, rangesArea, rangesReplied, rangesFilled}
 use Rattle.rules_calls.specs.Allow.{allowFields, allowEdit, allows}
-use Rattle.rules_calls.specs.Objects.{allocEdit, destroyEdit, makes, destroys}
+use Rattle.rules_calls.specs.Objects.{allocFlags, allocEdit, destroyId, destroyEdit, makes, destroys}
 use Rattle.rules_calls.specs.Unmap.{unmapFields, unmapEdit, removes}
 use Rattle.rules_calls.specs.Copy.{copyFields, copyEdit, copies}
 use Rattle.rules_calls.specs.Map.{mapFields, mapEdit, mapping}
@@ -23,7 +23,7 @@ use mathlib.Core.Path.{_≡_, refl}
 use lib.IntN.{pos, negℤ}
 use lib.ListN.{replicate}
 use Rattle.ranges.specs.Ranges.{U64MAX}
-use Rattle.wire.specs.Fields.{field, put}
+use Rattle.wire.specs.Fields.{put}
 use Rattle.freeranges.specs.Free.{between, endBelow, startAbove, around, without, freeFrom, freeRanges}
 use Rattle.freeranges.specs.Written.{putAt, putRanges}
 use Rattle.rules_table.specs.declared.Kind.the-variants.{Space}
@@ -34,8 +34,8 @@ use Rattle.rules_calls.specs.Results.{result}
 
 -- what a command decides over a good table, by its own rule. IOVA_RANGES changes nothing: its edit carries the errno alone
 abbrev pub commandEdit : Command → Table → List ℕ → List ℕ → Edit
-commandEdit Destroy t bytes area = destroyEdit (t .objects) (field 4 bytes 4)
-commandEdit IoasAlloc t bytes area = allocEdit (t .objects) (field 4 bytes 4)
+commandEdit Destroy t bytes area = destroyEdit (t .objects) (destroyId bytes)
+commandEdit IoasAlloc t bytes area = allocEdit (t .objects) (allocFlags bytes)
 commandEdit AllowIovas t bytes area = allowEdit (t .objects) (allowFields bytes) area
 commandEdit Copy t bytes area = copyEdit (t .objects) (t .mappings) (copyFields bytes)
 commandEdit IovaRanges t bytes area = refuse (rangesErrno (t .objects) (rangesFields bytes) area)

@@ -17,6 +17,19 @@ use Rattle.rules_calls.specs.Edits.{settle, accept, added, noRecord}
 use mathlib.Core.Path.{_≡_, refl}
 use Rattle.rules_table.specs.declared.Attachment.{Attachment}
 use Rattle.rules_table.specs.declared.Attachment.the-variants.{Loose, Attached}
+use Rattle.wire.specs.Fields.{field}
+
+-- ---- the fields. IOAS_ALLOC: size, flags, out id; DESTROY: size, id
+abbrev pub allocFlags : List ℕ → ℕ
+allocFlags bytes = field 4 bytes 4
+
+abbrev pub madeId : List ℕ → ℕ
+madeId bytes = field 4 bytes 8
+
+abbrev pub destroyId : List ℕ → ℕ
+destroyId bytes = field 4 bytes 4
+
+-- ---- the rules
 
 unfoldable pub allocChecks : List Object → ℕ → List (Check ℕ)
 allocChecks os flags = when (not (eqb flags 0)) 95 ∷ noRecord (freeRecord os) ∷ []

@@ -22,8 +22,10 @@ use Rattle.rules_calls.specs.declared.Command.the-variants as Named
 use Rattle.rules_calls.specs.declared.Row.{Row}
 use Rattle.rules_calls.specs.declared.Row.the-variants.{Unlisted, Listed}
 use Rattle.rules_calls.specs.Requests.{commands, lookup}
-use Rattle.rules_calls.specs.Map.{rightsOf}
-use Rattle.rules_calls.specs.Unmap.{asksAll}
+use Rattle.rules_calls.specs.Map.{mapFields, rightsOf}
+use Rattle.rules_calls.specs.Copy.{copyFields}
+use Rattle.rules_calls.specs.Objects.{madeId, destroyId}
+use Rattle.rules_calls.specs.Unmap.{unmapFields, asksAll}
 use Rattle.rules_history.specs.Calls.{Call, Event}
 
 -- a mapping that exists. Its root is the number of the MAP from which it descends, counted from 0 over all calls
@@ -60,21 +62,21 @@ tick l = record { entries = l .entries; made = l .made; time = suc (l .time); li
 
 abbrev pub mapEntry : List ℕ → List ℕ → ℕ → Entry
 mapEntry bytes written number = record {
-  space = field 4 bytes 8;
-  address = field 8 written 32;
-  length = field 8 bytes 24;
+  space = mapFields bytes .space;
+  address = mapFields written .address;
+  length = mapFields bytes .length;
   root = number;
-  memory = field 8 bytes 16;
-  rights = rightsOf (field 4 bytes 4);
+  memory = mapFields bytes .memory;
+  rights = rightsOf (mapFields bytes .flags);
 }
 
 abbrev pub withMap : List ℕ → List ℕ → Ledger → Ledger
 withMap bytes written l = record {
   entries = mapEntry bytes written (l .time) ∷ l .entries;
-  made = record { number = l .time; pages = pagesTouched (field 8 bytes 16) (field 8 bytes 24) } ∷ l .made;
+  made = record { number = l .time; pages = pagesTouched (mapFields bytes .memory) (mapFields bytes .length) } ∷ l .made;
   time = suc (l .time);
   live = l .live;
-  accepted = upd (l .accepted) (field 4 bytes 8) (l .accepted (field 4 bytes 8) + field 8 bytes 24);
+  accepted = upd (l .accepted) (mapFields bytes .space) (l .accepted (mapFields bytes .space) + mapFields bytes .length);
   removed = l .removed;
 }
 
@@ -96,21 +98,21 @@ sourceEntry es s a n = orNone (find (entryIs s a n) es)
 
 abbrev pub copyEntry : List ℕ → List ℕ → Entry → Entry
 copyEntry bytes written source = record {
-  space = field 4 bytes 8;
-  address = field 8 written 24;
-  length = field 8 bytes 16;
+  space = copyFields bytes .target;
+  address = copyFields written .address;
+  length = copyFields bytes .length;
   root = source .root;
   memory = source .memory;
-  rights = rightsOf (field 4 bytes 4);
+  rights = rightsOf (copyFields bytes .flags);
 }
 
 abbrev pub withCopy : List ℕ → List ℕ → Ledger → Ledger
 withCopy bytes written l = record {
-  entries = copyEntry bytes written (sourceEntry (l .entries) (field 4 bytes 12) (field 8 bytes 32) (field 8 bytes 16)) ∷ l .entries;
+  entries = copyEntry bytes written (sourceEntry (l .entries) (copyFields bytes .source) (copyFields bytes .origin) (copyFields bytes .length)) ∷ l .entries;
   made = l .made;
   time = suc (l .time);
   live = l .live;
-  accepted = upd (l .accepted) (field 4 bytes 8) (l .accepted (field 4 bytes 8) + field 8 bytes 16);
+  accepted = upd (l .accepted) (copyFields bytes .target) (l .accepted (copyFields bytes .target) + copyFields bytes .length);
   removed = l .removed;
 }
 
@@ -124,12 +126,12 @@ struckBy s a n e = eqb (e .space) s && (asksAll a n || inside (entryRange e) (sp
 
 abbrev pub withUnmap : List ℕ → List ℕ → Ledger → Ledger
 withUnmap bytes written l = record {
-  entries = keep (λ e. not (struckBy (field 4 bytes 4) (field 8 bytes 8) (field 8 bytes 16) e)) (l .entries);
+  entries = keep (λ e. not (struckBy (unmapFields bytes .space) (unmapFields bytes .address) (unmapFields bytes .length) e)) (l .entries);
   made = l .made;
   time = suc (l .time);
   live = l .live;
   accepted = l .accepted;
-  removed = upd (l .removed) (field 4 bytes 4) (l .removed (field 4 bytes 4) + field 8 written 16);
+  removed = upd (l .removed) (unmapFields bytes .space) (l .removed (unmapFields bytes .space) + unmapFields written .length);
 }
 
 -- ---- IOAS_ALLOC makes the space whose id it writes; DESTROY strikes the entries whose space is its id
@@ -139,9 +141,9 @@ withSpace written l = record {
   entries = l .entries;
   made = l .made;
   time = suc (l .time);
-  live = upd (l .live) (field 4 written 8) true;
-  accepted = upd (l .accepted) (field 4 written 8) 0;
-  removed = upd (l .removed) (field 4 written 8) 0;
+  live = upd (l .live) (madeId written) true;
+  accepted = upd (l .accepted) (madeId written) 0;
+  removed = upd (l .removed) (madeId written) 0;
 }
 
 unfoldable pub entryOf : ℕ → Entry → Bool
@@ -149,10 +151,10 @@ entryOf s e = eqb (e .space) s
 
 abbrev pub withoutSpace : List ℕ → Ledger → Ledger
 withoutSpace bytes l = record {
-  entries = keep (λ e. not (entryOf (field 4 bytes 4) e)) (l .entries);
+  entries = keep (λ e. not (entryOf (destroyId bytes) e)) (l .entries);
   made = l .made;
   time = suc (l .time);
-  live = upd (l .live) (field 4 bytes 4) false;
+  live = upd (l .live) (destroyId bytes) false;
   accepted = l .accepted;
   removed = l .removed;
 }

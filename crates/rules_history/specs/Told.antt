@@ -11,7 +11,7 @@ use Rattle.rules_table.specs.Records.{covers, used, ofSpace, extent}
 use Rattle.rules_table.specs.Good.{good}
 use Rattle.rules_table.specs.Charge.{charge}
 use Rattle.rules_history.specs.Ledger.{Ledger, rightIn, ledgerGives, ledgerMaps, ledgerCharge}
-use mathlib.Core.List.{List, [], _∷_, map}
+use mathlib.Core.List.{[], _∷_, map}
 use Rattle.rules_table.specs.Flags.{bit}
 use Rattle.ranges.specs.Ranges.{holds, span, lastOf}
 

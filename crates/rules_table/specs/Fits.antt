@@ -1,7 +1,7 @@
 -- What bind refuses of a device's fields and ALLOW_IOVAS of a list, said once: the calls ask it of what they are given, 117 of what stands in the table.
 use Prim.Native.Nat.{ℕ}
 use mathlib.Core.Bool.{Bool, not, _||_, true, false}
-use mathlib.Core.List.{List, [], _∷_, map}
+use mathlib.Core.List.{List, [], _∷_}
 use lib.Dec.{ltb, eqb}
 use Rattle.lists.specs.Checks.{Check, when, allPass}
 use Rattle.alignment.specs.Pages.{smallestPage}
