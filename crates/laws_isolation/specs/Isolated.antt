@@ -1,13 +1,10 @@
 -- Document 01: "MAP, UNMAP, ALLOW_IOVAS and IOVA_RANGES answer alike (result, reply bytes, range area) in two good tables that agree on that space, its mappings and allow
 -- list, its devices, the limit, the charge and the number of free mapping records." The space is the one that the bytes name.
-use Prim.Native.Nat.{ℕ, suc, _+_}
+use Prim.Native.Nat.{ℕ}
 use mathlib.Core.Path.{_≡_, refl, ap, _∙_}
 use mathlib.Core.Bool.{Bool, true, cond}
 use mathlib.Core.List.{List}
-use native.Mathlib.Omega.{arith}
-use lib.Dec.{ltb}
 use lib.ListN.{length, take}
-use Rattle.lists.specs.Tests.{leb-iff}
 use Rattle.lists.specs.Search.{any}
 use Rattle.lists.specs.Checks.{Check, first}
 use Rattle.ranges.specs.declared.Range.{Range}
@@ -37,10 +34,7 @@ use Rattle.edits.specs.Numbers.{mapNumberChecksAt, mapChecksAt, mapEditAt, unma
 
 module _ (s : ℕ) (t u : Table) (a : Alike s t u) where
   over-alike : (pages : ℕ) → overLimit (t .limit) (charge (t .mappings)) pages ≡ overLimit (u .limit) (charge (u .mappings)) pages
-  unfolding overLimit
-  over-alike pages =
-      leb-iff (suc (t .limit)) (charge (t .mappings) + pages) (suc (u .limit)) (charge (u .mappings) + pages)
-      (λ h. omega (arith, h, a .limit, a .charge)) (λ h. omega (arith, h, a .limit, a .charge))
+  over-alike pages = rw (a .limit, a .charge)
 
   room-alike : (pages : ℕ) → roomChecks (freeMapping (t .mappings)) (t .limit) (charge (t .mappings)) pages ≡ roomChecks (freeMapping (u .mappings)) (u .limit) (charge (u .mappings)) pages
   unfolding roomChecks
