@@ -12,7 +12,7 @@
 # as ever too. The module is then compiled once more for each kernel, as the kit does it but for
 #   - the attributes of its functions: no red zone, general registers only;
 #   - the stack: a multiple of 8 is enough on x86-64;
-#   - the target, and there how C passes a struct by value and gives back 32 bits (aarch64, riscv64).
+#   - the target, and there how C gives back 32 bits (aarch64, riscv64).
 set -euo pipefail
 cd "$(dirname "$0")/.."
 export PATH="/opt/rattle/bin:$PATH"
@@ -88,7 +88,8 @@ prove() {
   [ "$(grep -c '^attributes #0 = { nounwind "probe-stack"="inline-asm" "target-cpu"="x86-64" }$' "$work/module.ll")" = 1 ] || fail "the module's functions have other attributes"
   ! grep '^define ' "$work/module.ll" | grep -qv ' #0 {$' || fail "a function of the module has attributes of its own"
   ! grep -q '^!llvm.module.flags' "$work/module.ll" || fail "the module has flags"
-  [ "$(grep -o 'byval([^)]*)' "$work/module.ll" | sort -u)" = 'byval([72 x i8])' ] || fail "another struct is passed by value"
+  # how a struct goes by value differs between the targets; no entry takes one
+  ! grep -q 'byval(' "$work/module.ll" || fail "a struct is passed by value"
 }
 
 # What the compiler is told of each kernel: its target, its registers, and which edits the module needs beside its attributes.
@@ -114,8 +115,8 @@ target() { # ARCH
   # shellcheck disable=SC2086
   layout=$(echo 'int x;' | "$tools/bin/clang" --target=$triple $words --no-default-config -x c - -S -emit-llvm -o - | sed -n 's/^target datalayout = //p')
   edits="s/^target datalayout = .*/target datalayout = $layout/; s/^target triple = .*/target triple = \"$triple\"/"
-  # a struct of more than 16 bytes goes by its address, and riscv64 wants 32 bits given back with their sign
-  edits="$edits; s/byval\(\[72 x i8\]\) align 8 //; s/^define noundef i32 @iommufd_/define noundef signext i32 @iommufd_/"
+  # riscv64 wants 32 bits given back with their sign
+  edits="$edits; s/^define noundef i32 @iommufd_/define noundef signext i32 @iommufd_/"
 }
 
 # The header's version and the commit, for a kernel that wants to see what it has linked.

@@ -1,19 +1,19 @@
 /*
  * The map from device addresses to memory, for a kernel that links libiommufd.a (x86-64, aarch64 or riscv64).
  *
- * A table lies in the caller's memory: a head with 32 object records, and 128 mapping records. Every entry answers for any contents of that memory, any bytes and any
- * numbers: a table that the rules call bad, or a count of records that is not 128, is answered with -IOMMUFD_EUCLEAN and left as it was. A refusal writes nothing; the one
- * exception is -IOMMUFD_EMSGSIZE of IOVA_RANGES, which tells the full count and writes the ranges that had room. No good table is made bad.
+ * A table lies in the caller's memory: a head with 32 object records, and 128 mapping records. Every call answers for any contents of that memory, any bytes and
+ * any numbers: a table that the rules call bad, or a count of records that is not 128, is answered with -IOMMUFD_EUCLEAN and left as it was. A refusal writes
+ * nothing; the one exception is -IOMMUFD_EMSGSIZE of IOVA_RANGES, which tells the full count and writes the ranges that had room. No good table is made bad.
  *
  * What the caller owes:
- *  - While an entry runs, nobody else writes the table, the command or the range area, and no second entry runs on the same table: a lock around each call. An interrupt
+ *  - While a call runs, nobody else writes the table, the command or the range area, and no second call runs on the same table: a lock around each. An interrupt
  *    may come at any time, on the same stack too, as long as its handler keeps away from the table; the code keeps nothing below the stack pointer.
  *  - The lent parts do not overlap, and lie where the header says that they lie: a head and records at a multiple of 8, a command and a range area anywhere. A pointer
  *    whose length or count is 0 is not followed and may be NULL; any other is not NULL. The contents have been written at some time, if only with zeros:
- *    iommufd_fresh is the one entry that takes memory which nobody has written yet.
- *  - IOMMUFD_STACK bytes of stack below the call. A frame of more than a page touches its pages one after another, so that a guard page below the stack catches one that
- *    is too short. Where a call is made the stack pointer is a multiple of 8 on x86-64, of 16 on aarch64 and riscv64; for the rest the platform's calling convention for
- *    C holds.
+ *    iommufd_fresh is the one call that takes memory which nobody has written yet; no answer of it hangs on what was there.
+ *  - IOMMUFD_STACK bytes of stack below the call of an entry; the inline function of a host call has ten words beside that, in its own frame or its caller's. A
+ *    frame of more than a page touches its pages one after another, so that a guard page below the stack catches one that is too short. Where a call is made the
+ *    stack pointer is a multiple of 8 on x86-64, of 16 on aarch64 and riscv64; for the rest the platform's calling convention for C holds.
  *  - memcpy, memmove and memset to link with, as C defines them. Their own stack is not counted in IOMMUFD_STACK, and what registers they use is theirs to know.
  * What the caller need not give: vector or floating registers (no instruction uses one), a red zone, memory to allocate from, a way to block. No entry loops without end
  * or calls out, but for the three above.
@@ -28,23 +28,27 @@
 
 #ifdef __cplusplus
 #define IOMMUFD_SIZE(type, bytes) static_assert(sizeof(type) == (bytes), #type)
+#define IOMMUFD_ALIGN(type, bytes) static_assert(alignof(type) == (bytes), #type)
 extern "C" {
 #else
 #define IOMMUFD_SIZE(type, bytes) _Static_assert(sizeof(type) == (bytes), #type)
+#define IOMMUFD_ALIGN(type, bytes) _Static_assert(_Alignof(type) == (bytes), #type)
 #endif
 
+/* The archive takes the head as words of 64 bits, two fields of 32 bits in one of them: the struct below is these words on a little-endian machine alone. */
+#if !defined(__BYTE_ORDER__) || __BYTE_ORDER__ != __ORDER_LITTLE_ENDIAN__
+#error "iommufd.h: a little-endian machine is needed"
+#endif
+IOMMUFD_SIZE(size_t, 8);
+
 /* Goes up with every change of this header or of an answer. A kernel may compare it with iommufd_archive_version, which is the one that its archive was built with. */
-#define IOMMUFD_VERSION 1
+#define IOMMUFD_VERSION 2
 extern const uint32_t iommufd_archive_version;
 /* The commit that the archive was built from, as text, with a + behind it if the tree had changes that were not committed; `unknown` if it was no git tree. */
 extern const char iommufd_archive_commit[];
 
 /* The stack of the deepest call, at least; the gate measures it on each archive (docs/PERFORMANCE.md). */
-#if defined(__riscv)
-#define IOMMUFD_STACK 38912
-#else
-#define IOMMUFD_STACK 32768
-#endif
+#define IOMMUFD_STACK 8192
 
 #define IOMMUFD_OBJECTS 32
 #define IOMMUFD_MAPPINGS 128
@@ -78,6 +82,7 @@ struct iommufd_head {
 	struct iommufd_object objects[IOMMUFD_OBJECTS];
 };
 IOMMUFD_SIZE(struct iommufd_head, 6920);
+IOMMUFD_ALIGN(struct iommufd_head, 8);
 
 #define IOMMUFD_RIGHT_WRITE 1u
 #define IOMMUFD_RIGHT_READ 2u
@@ -93,6 +98,7 @@ struct iommufd_mapping {
 	uint64_t memory; /* [user_va] */
 };
 IOMMUFD_SIZE(struct iommufd_mapping, 40);
+IOMMUFD_ALIGN(struct iommufd_mapping, 8);
 
 /* A table whole, for a caller that holds it in one place: what iommufd_table_call and its kin below take. Later parts are added at its end. */
 struct iommufd_table {
@@ -327,19 +333,68 @@ struct iommufd_range {
 IOMMUFD_SIZE(struct iommufd_range, 16);
 
 /*
- * ---- the entries. `count` is the number of mapping records that are lent. For who holds the parts of a table where they like; the names below them take a table whole.
+ * ---- the entries: the three functions of the archive. Every other function stands in this header and hands on to them; it is simpler to call those.
+ *
+ * `count` is the number of mapping records that are lent. `beside` is for what will stand beside head and records one day; today that is nothing, and
+ * `beside_count` 0.
  */
 
-/* Writes an empty table with a charge limit in pages, over whatever the memory held: 0. -117 if count is not 128, -22 for a limit above 2^36; then nothing is written. */
-int32_t iommufd_fresh(struct iommufd_head *head, struct iommufd_mapping *mappings, size_t count, uint64_t limit);
-
 /* A driver's command: 0, or the negative of the first check that fails. */
-int32_t iommufd_call(struct iommufd_head *head, struct iommufd_mapping *mappings, size_t count, uint32_t request, void *command, size_t command_size, void *area,
-                     size_t area_size);
+int32_t iommufd_call(struct iommufd_head *head, struct iommufd_mapping *mappings, size_t count, uint64_t *beside, size_t beside_count, uint32_t request,
+                     void *command, size_t command_size, void *area, size_t area_size);
 
 /* What iommufd_call would answer now, with the same bytes written into the command and the range area; the table is only read. */
-int32_t iommufd_preview(const struct iommufd_head *head, const struct iommufd_mapping *mappings, size_t count, uint32_t request, void *command, size_t command_size,
-                        void *area, size_t area_size);
+int32_t iommufd_preview(const struct iommufd_head *head, const struct iommufd_mapping *mappings, size_t count, const uint64_t *beside, size_t beside_count,
+                        uint32_t request, void *command, size_t command_size, void *area, size_t area_size);
+
+/* The host calls, and the numbers that each takes, a word each from the first on. */
+enum iommufd_host_kind {
+	IOMMUFD_HOST_FRESH = 0,  /* limit */
+	IOMMUFD_HOST_BIND = 1,   /* bitmap, count of the reserved ranges, four starts, four lasts */
+	IOMMUFD_HOST_ATTACH = 2, /* device, space */
+	IOMMUFD_HOST_DETACH = 3, /* device */
+	IOMMUFD_HOST_REACH = 4,  /* device, address, length, write */
+	IOMMUFD_HOST_CHARGE = 5, /* none */
+};
+#define IOMMUFD_HOST_WORDS 10
+
+/*
+ * A host call: its kind, and its numbers in ten words at least. Of an id and of a count the low half of the word is read. The result is 0, and then the first
+ * word is what the call tells: bind's id, reach's memory, charge's pages, 0 for attach and detach; fresh leaves it. Or, and then words and table stay,
+ *    -14  fewer than ten words
+ *    -25  the kind is none of these, whatever the table is
+ * and behind these two what stands with the call's own function below.
+ */
+int32_t iommufd_host(struct iommufd_head *head, struct iommufd_mapping *mappings, size_t count, uint64_t *beside, size_t beside_count, uint32_t kind,
+                     uint64_t *words, size_t words_count);
+
+/* ---- the calls, for who holds the parts of a table where they like; the names below them take a table whole. */
+
+/* iommufd_call with nothing beside the table. */
+static inline int32_t iommufd_command(struct iommufd_head *head, struct iommufd_mapping *mappings, size_t count, uint32_t request, void *command,
+                                      size_t command_size, void *area, size_t area_size)
+{
+	return iommufd_call(head, mappings, count, &head->limit, 0, request, command, command_size, area, area_size);
+}
+
+/* iommufd_preview with nothing beside the table. */
+static inline int32_t iommufd_command_preview(const struct iommufd_head *head, const struct iommufd_mapping *mappings, size_t count, uint32_t request,
+                                              void *command, size_t command_size, void *area, size_t area_size)
+{
+	return iommufd_preview(head, mappings, count, &head->limit, 0, request, command, command_size, area, area_size);
+}
+
+/*
+ * Writes an empty table with a charge limit in pages, over whatever the memory held: 0, or
+ *   -117  `count` is not 128
+ *    -22  the limit is above 2^36
+ */
+static inline int32_t iommufd_fresh(struct iommufd_head *head, struct iommufd_mapping *mappings, size_t count, uint64_t limit)
+{
+	uint64_t words[IOMMUFD_HOST_WORDS] = { limit };
+
+	return iommufd_host(head, mappings, count, words, 0, IOMMUFD_HOST_FRESH, words, IOMMUFD_HOST_WORDS);
+}
 
 /*
  * A new device with its page sizes and reserved ranges, attached to nothing, in the lowest free object record. The result is its id, 1 to 32, or
@@ -347,7 +402,24 @@ int32_t iommufd_preview(const struct iommufd_head *head, const struct iommufd_ma
  *    -22  no page size, or the smallest above 4,096; more than 4 ranges; a start above its last
  *    -12  no object record is free
  */
-int32_t iommufd_bind(struct iommufd_head *head, struct iommufd_mapping *mappings, size_t count, uint64_t bitmap, struct iommufd_reserved reserved);
+static inline int32_t iommufd_bind(struct iommufd_head *head, struct iommufd_mapping *mappings, size_t count, uint64_t bitmap, struct iommufd_reserved reserved)
+{
+	uint64_t words[IOMMUFD_HOST_WORDS] = {
+		bitmap,
+		reserved.count,
+		reserved.starts[0],
+		reserved.starts[1],
+		reserved.starts[2],
+		reserved.starts[3],
+		reserved.lasts[0],
+		reserved.lasts[1],
+		reserved.lasts[2],
+		reserved.lasts[3],
+	};
+	int32_t result = iommufd_host(head, mappings, count, words, 0, IOMMUFD_HOST_BIND, words, IOMMUFD_HOST_WORDS);
+
+	return result < 0 ? result : (int32_t)words[0];
+}
 
 /*
  * A device to a space: 0, or
@@ -358,7 +430,12 @@ int32_t iommufd_bind(struct iommufd_head *head, struct iommufd_mapping *mappings
  *    -98  one of its ranges touches a mapping or the allow list of the space
  *    -98  a mapping of the space does not fit the alignment that the space would get
  */
-int32_t iommufd_attach(struct iommufd_head *head, struct iommufd_mapping *mappings, size_t count, uint32_t device, uint32_t space);
+static inline int32_t iommufd_attach(struct iommufd_head *head, struct iommufd_mapping *mappings, size_t count, uint32_t device, uint32_t space)
+{
+	uint64_t words[IOMMUFD_HOST_WORDS] = { device, space };
+
+	return iommufd_host(head, mappings, count, words, 0, IOMMUFD_HOST_ATTACH, words, IOMMUFD_HOST_WORDS);
+}
 
 /*
  * A device from its space; mappings stay: 0, or
@@ -366,11 +443,17 @@ int32_t iommufd_attach(struct iommufd_head *head, struct iommufd_mapping *mappin
  *     -2  no such device
  *    -22  it is attached to nothing
  */
-int32_t iommufd_detach(struct iommufd_head *head, struct iommufd_mapping *mappings, size_t count, uint32_t device);
+static inline int32_t iommufd_detach(struct iommufd_head *head, struct iommufd_mapping *mappings, size_t count, uint32_t device)
+{
+	uint64_t words[IOMMUFD_HOST_WORDS] = { device };
+
+	return iommufd_host(head, mappings, count, words, 0, IOMMUFD_HOST_DETACH, words, IOMMUFD_HOST_WORDS);
+}
 
 /*
- * The memory that a device gets to with `length` bytes at an address: for reading where `write` is 0, else for writing. The table is only read. 0 beside the memory's
- * address exactly where the bytes lie wholly inside one mapping of the device's space that has the right; else 0 beside
+ * The memory that a device gets to with `length` bytes at an address: for reading where `write` is 0, else for writing. The table is only read: of this kind and
+ * of the next the entry writes neither head nor records, so that the casts, which take `const` away, are right. 0 beside the memory's address exactly where the
+ * bytes lie wholly inside one mapping of the device's space that has the right; else 0 beside
  *   -117  the table is bad
  *     -2  no such device
  *    -22  it is attached to nothing
@@ -379,11 +462,29 @@ int32_t iommufd_detach(struct iommufd_head *head, struct iommufd_mapping *mappin
  *    -14  not wholly inside one mapping
  *     -1  the mapping has not the right
  */
-struct iommufd_number iommufd_reach(const struct iommufd_head *head, const struct iommufd_mapping *mappings, size_t count, uint32_t device, uint64_t address,
-                                    uint64_t length, uint32_t write);
+static inline struct iommufd_number iommufd_reach(const struct iommufd_head *head, const struct iommufd_mapping *mappings, size_t count, uint32_t device,
+                                                  uint64_t address, uint64_t length, uint32_t write)
+{
+	uint64_t words[IOMMUFD_HOST_WORDS] = { device, address, length, write };
+	struct iommufd_number number;
+
+	number.result = iommufd_host((struct iommufd_head *)(uintptr_t)head, (struct iommufd_mapping *)(uintptr_t)mappings, count, words, 0, IOMMUFD_HOST_REACH,
+	                             words, IOMMUFD_HOST_WORDS);
+	number.value = number.result < 0 ? 0 : words[0];
+	return number;
+}
 
 /* The pages of all backings, each counted once; it never passes the limit. -117 if the table is bad. The table is only read. */
-struct iommufd_number iommufd_charge(const struct iommufd_head *head, const struct iommufd_mapping *mappings, size_t count);
+static inline struct iommufd_number iommufd_charge(const struct iommufd_head *head, const struct iommufd_mapping *mappings, size_t count)
+{
+	uint64_t words[IOMMUFD_HOST_WORDS] = { 0 };
+	struct iommufd_number number;
+
+	number.result = iommufd_host((struct iommufd_head *)(uintptr_t)head, (struct iommufd_mapping *)(uintptr_t)mappings, count, words, 0, IOMMUFD_HOST_CHARGE,
+	                             words, IOMMUFD_HOST_WORDS);
+	number.value = number.result < 0 ? 0 : words[0];
+	return number;
+}
 
 /* ---- the same for a table whole. What stands beside head and records one day is handed on here, and no argument below changes for it. */
 
@@ -394,12 +495,12 @@ static inline int32_t iommufd_table_fresh(struct iommufd_table *table, uint64_t 
 
 static inline int32_t iommufd_table_call(struct iommufd_table *table, uint32_t request, void *command, size_t command_size, void *area, size_t area_size)
 {
-	return iommufd_call(&table->head, table->mappings, IOMMUFD_MAPPINGS, request, command, command_size, area, area_size);
+	return iommufd_command(&table->head, table->mappings, IOMMUFD_MAPPINGS, request, command, command_size, area, area_size);
 }
 
 static inline int32_t iommufd_table_preview(const struct iommufd_table *table, uint32_t request, void *command, size_t command_size, void *area, size_t area_size)
 {
-	return iommufd_preview(&table->head, table->mappings, IOMMUFD_MAPPINGS, request, command, command_size, area, area_size);
+	return iommufd_command_preview(&table->head, table->mappings, IOMMUFD_MAPPINGS, request, command, command_size, area, area_size);
 }
 
 static inline int32_t iommufd_table_bind(struct iommufd_table *table, uint64_t bitmap, const struct iommufd_reserved *reserved)

@@ -2,7 +2,7 @@
 """Whether an exchange in include/iommufd.h would be noticed.
 
   exchanges.py               copies of the header with one exchange each; every one has to be noticed: by the compiler, by tests/header/pins.c, or by the check below
-  exchanges.py --all         the same with more exchanges: also of parts with different types, of parameters, of the texts
+  exchanges.py --all         the same with more exchanges: also of parts with different types, of the parameters of a table's functions, of the texts
   exchanges.py --entries     only the check of the header as it stands: its prototypes have the names, types and order of the proved entries' parameters
                              (crates/boundary/src/lib.rt), and pins.c uses every name of the header
 
@@ -24,11 +24,17 @@ ARCHIVE = os.path.join(ROOT, 'target', 'archives', 'x86_64', 'libiommufd.a')
 COMPILE = ['gcc', '-std=c11', '-O0', '-Wall', '-Wextra', '-Wpedantic', '-Werror']
 
 # What nothing that is linked or run can tell, each with its reason.
+BY_NAME = 'no entry takes it: the inline functions hand on its fields by their names, so their order is the caller\'s own'
 EXEMPT = {
-    'fields: iommufd_table: head, mappings': 'no entry takes a table whole: the wrappers hand on its two parts by their names, so their order is the caller\'s own',
+    'fields: iommufd_table: head, mappings': BY_NAME,
+    'fields: iommufd_reserved: count, spare': BY_NAME,
+    'fields: iommufd_reserved: count, starts': BY_NAME,
+    'fields: iommufd_reserved: starts, lasts': BY_NAME,
+    'fields: iommufd_number: result, value': BY_NAME,
+    'handed on: iommufd_fresh: 0, IOMMUFD_HOST_FRESH': 'both are 0',
 }
-# Constants that stand for nothing an entry does: the guard, the size check, and the stack, which tests/archive.py measures.
-ASIDE = {'IOMMUFD_H', 'IOMMUFD_SIZE', 'IOMMUFD_STACK'}
+# Constants that stand for nothing an entry does: the guard, the checks of size and alignment, and the stack, which tests/archive.py measures.
+ASIDE = {'IOMMUFD_H', 'IOMMUFD_SIZE', 'IOMMUFD_ALIGN', 'IOMMUFD_STACK'}
 
 # `wide` are those that only --all tries.
 Exchange = namedtuple('Exchange', 'name text wide')
@@ -95,19 +101,36 @@ def typed(words):
 PROTOTYPE = r'^[a-z][\w ]*\b(iommufd_\w+)\(([^)]*)\);'
 
 
+def parameters(text, start, end):
+    return [Part(re.search(r'\w+$', w)[0], a, b, typed(w)) for w, a, b in split(text, start, end)]
+
+
 def prototypes(text):
     """The parameters of each entry."""
     for p in re.finditer(PROTOTYPE, text, re.M):
-        yield p[1], [Part(re.search(r'\w+$', w)[0], a, b, typed(w)) for w, a, b in split(text, *p.span(2))]
+        yield p[1], parameters(text, *p.span(2))
 
 
-def wrappers(text):
-    """Of each wrapper its parameters, and what it hands on."""
-    types = {name: [p.type for p in parameters] for name, parameters in prototypes(text)}
-    for w in re.finditer(r'^static inline .*?\b(iommufd_table_\w+)\((.*)\)\n\{\n\treturn (\w+)\((.*)\);\n\}', text, re.M):
-        parameters = [Part(re.search(r'\w+$', v)[0], a, b, typed(v)) for v, a, b in split(text, *w.span(2))]
-        given = [Part(v, a, b, t) for (v, a, b), t in zip(split(text, *w.span(4)), types[w[3]], strict=True)]
-        yield w[1], parameters, given
+# What an inline function is made of: its name, its parameters, what it hands on to which function, its list of words, and where it reads the first of them.
+Inline = namedtuple('Inline', 'name parameters given words answers')
+INLINE = r'^static inline [^;{]*?\b(iommufd_\w+)\(([^)]*)\)\n\{\n(.*?)^\}'
+
+
+def inlines(text):
+    found = list(re.finditer(INLINE, text, re.M | re.S))
+    if len(found) != text.count('static inline'):
+        raise Fault('an inline function was not found')
+    types = {name: [p.type for p in of] for name, of in prototypes(text)} | {f[1]: [p.type for p in parameters(text, *f.span(2))] for f in found}
+    for f in found:
+        given, words, answers = [], [], []
+        body = slice(*f.span(3))
+        for call in re.compile(r'\b(iommufd_\w+)\((.*?)\);', re.S).finditer(text, body.start, body.stop):
+            given += [Part(v, a, b, t) for (v, a, b), t in zip(split(text, *call.span(2)), types[call[1]], strict=True)]
+        for listed in re.compile(r'uint64_t words\[IOMMUFD_HOST_WORDS\] = \{(.*?)\};', re.S).finditer(text, body.start, body.stop):
+            words += [Part(v, a, b, '') for v, a, b in split(text, *listed.span(1)) if v]
+        for answer in re.compile(r'\bwords\[0\]').finditer(text, body.start, body.stop):
+            answers.append(Part('words[0]', *answer.span(), ''))
+        yield Inline(f[1], parameters(text, *f.span(2)), given, words, answers)
 
 
 # ---- the exchanges
@@ -120,7 +143,16 @@ def exchanged(text, one, other):
 
 def pairs(text, name, parts, wide=False):
     for one, other in combinations(parts, 2):
-        yield Exchange(f'{name}: {one.name}, {other.name}', exchanged(text, one, other), wide or one.type != other.type)
+        if one.name != other.name:
+            yield Exchange(f'{name}: {one.name}, {other.name}', exchanged(text, one, other), wide or one.type != other.type)
+
+
+def further(text, of):
+    """The words of an inline function one place further, and its answer from the next word; those of charge are none, those of bind fill their places."""
+    if 0 < len(of.words) < 10 and of.words[0].name != '0':
+        yield Exchange(f'one further: words of {of.name}', text[:of.words[0].start] + '0, ' + text[of.words[0].start:], False)
+    for a in of.answers:
+        yield Exchange(f'one further: answer of {of.name}', text[:a.start] + 'words[1]' + text[a.end:], False)
 
 
 def exchanges(text):
@@ -131,32 +163,37 @@ def exchanges(text):
         for c in group:
             value, suffix = re.fullmatch(r'(\w+?)(u?)', text[c.start:c.end]).groups()
             yield Exchange(f'one more: {c.name}', text[:c.start] + f'{int(value, 0) + 1}{suffix}' + text[c.end:], False)
-    for of, parameters, given in wrappers(text):
-        yield from pairs(text, 'handed on: ' + of, given)
-        yield from pairs(text, 'parameters: ' + of, parameters, True)
-    for of, parameters in prototypes(text):
-        yield from pairs(text, 'prototypes: ' + of, parameters)
+    for of in inlines(text):
+        yield from pairs(text, 'words: ' + of.name, of.words)
+        yield from further(text, of)
+        yield from pairs(text, 'handed on: ' + of.name, of.given)
+        yield from pairs(text, 'parameters: ' + of.name, of.parameters, of.name.startswith('iommufd_table_'))
+    for of, named in prototypes(text):
+        yield from pairs(text, 'prototypes: ' + of, named)
     yield from pairs(text, 'texts', texts(text), True)
 
 
 # ---- the check of the header as it stands
 
+# The head is a struct in C and its words in the proofs: that they are the same memory is what pins.c shows of each field.
 C_TYPES = {
-    '&mut Head': 'struct iommufd_head *', '&Head': 'const struct iommufd_head *', '&mut [Mapping]': 'struct iommufd_mapping *', '&[Mapping]': 'const struct iommufd_mapping *',
-    '&mut [u8]': 'void *', 'u32': 'uint32_t ', 'u64': 'uint64_t ', 'i32': 'int32_t ', 'RawReserved': 'struct iommufd_reserved ', 'Number': 'struct iommufd_number ',
+    '&mut [u64; 865]': 'struct iommufd_head *', '&[u64; 865]': 'const struct iommufd_head *',
+    '&mut [Mapping]': 'struct iommufd_mapping *', '&[Mapping]': 'const struct iommufd_mapping *',
+    '&mut [u64]': 'uint64_t *', '&[u64]': 'const uint64_t *', '&mut [u8]': 'void *', 'u32': 'uint32_t ', 'i32': 'int32_t ',
 }
 # The header's names where they are longer; a slice is an address and a length.
-NAMES = {'h': ['head'], 'ms': ['mappings', 'count'], 'cmd': ['command', 'command_size'], 'area': ['area', 'area_size']}
+NAMES = {'h': ['head'], 'ms': ['mappings', 'count'], 'beside': ['beside', 'beside_count'], 'cmd': ['command', 'command_size'], 'area': ['area', 'area_size'],
+         'words': ['words', 'words_count']}
 
 
 def proved():
     """The prototypes of the proved entries."""
     for e in re.finditer(r'pub extern "C" fn (\w+)\(([^)]*)\) -> (\w+)', read(ENTRIES)):
-        parameters = []
+        given = []
         for name, kind in re.findall(r'(\w+): ([^,]+?)\s*(?:,|$)', e[2]):
             names = NAMES.get(name, [name])
-            parameters += [C_TYPES[kind] + names[0]] + ['size_t ' + n for n in names[1:]]
-        yield f'{C_TYPES[e[3]]}{e[1]}({", ".join(parameters)});'
+            given += [C_TYPES[kind] + names[0]] + ['size_t ' + n for n in names[1:]]
+        yield f'{C_TYPES[e[3]]}{e[1]}({", ".join(given)});'
 
 
 def entries_differ(text):

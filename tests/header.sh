@@ -20,9 +20,9 @@ strict="-Wall -Wextra -Wpedantic -Werror"
 # A kernel may be stricter than that, and has no libc.
 echo '#include "iommufd.h"' >"$out/alone.c"
 # shellcheck disable=SC2086
-gcc -std=c11 -ffreestanding $strict -Wconversion -Wsign-conversion -Wshadow -Wundef -Iinclude -c "$out/alone.c" -o "$out/alone.o"
+gcc -std=c11 -ffreestanding $strict -Wconversion -Wsign-conversion -Wshadow -Wundef -Wcast-qual -Wcast-align=strict -Iinclude -c "$out/alone.c" -o "$out/alone.o"
 # shellcheck disable=SC2086
-g++ -std=c++11 $strict -Wconversion -Wshadow -Iinclude -x c++ -c "$out/alone.c" -o "$out/alone.o"
+g++ -std=c++11 $strict -Wconversion -Wshadow -Wcast-qual -Iinclude -x c++ -c "$out/alone.c" -o "$out/alone.o"
 echo "header: compiles alone as C11 and as C++11 without a warning"
 python3 tests/exchanges.py --entries
 

@@ -3,7 +3,7 @@
 
   instructions.py     runs tests/instructions.c with the archives of x86_64, aarch64 and riscv64 step by step in QEMU's user mode
 
-memcpy and memset are the caller's and not counted. On x86-64 callgrind has to count the same: that tells that the steps are counted well.
+memcpy and memset are the caller's and not counted, nor are the inline functions of the header around an entry. On x86-64 callgrind has to count the same: that tells that the steps are counted well.
 """
 import re
 import subprocess
@@ -47,12 +47,11 @@ def counted(pcs, own, places):
             counting = True
         elif pc in places['calls']:  # which prepares the next call by calls of its own
             counting = False
+        steps_here = 2 if pc == last and not repeating else 1  # callgrind counts also the look that ends a `rep`
         if counting and pc in inside:
-            counts[-1] += 1
-            if pc == last and not repeating:  # callgrind counts also the look that ends a `rep`
-                counts[-1] += 1
+            counts[-1] += steps_here
         elif counting:
-            around += 1
+            around += steps_here
         repeating = pc == last
         last = pc
     return counts, around

@@ -14,8 +14,9 @@ fail() { echo "kernel: $*" >&2; exit 1; }
 
 own=target/archives/x86_64/libiommufd.a
 needed=$(gcc -E -dM -ffreestanding include/iommufd.h | sed -n 's/^#define IOMMUFD_STACK //p')
-# what the archive may take, and a page for the shell and the interrupts
+# what the archive may take, and a page for the shell and the interrupts; and a stack that is too short
 stack=$((needed + 4096))
+short=$((needed / 2))
 
 # Builds the kernel and boots it; what it prints is in $out/said. It ends well with QEMU's status 1.
 boot() { # STACK SSE LOWER WORDS ARCHIVE..
@@ -44,9 +45,9 @@ case ${1:-} in
   # the stack pointer at 8 below a multiple of 16, for the second run: the archive does not care
   boot $stack 0 8 -mpreferred-stack-boundary=3 $own || { cat "$out/said"; fail "it failed"; }
   diff -u examples/kernel/stdout "$out/said"
-  ! boot 16384 0 8 -mpreferred-stack-boundary=3 $own || fail "it passed with a stack of 16 KiB"
+  ! boot $short 0 8 -mpreferred-stack-boundary=3 $own || fail "it passed with a stack of $short bytes"
   grep -q '^trap 14, ' "$out/said" || { cat "$out/said"; fail "a stack that is too short was not caught by its guard page"; }
-  echo "kernel: SSE off, $stack bytes of stack, interrupts on the same stack: every answer as without; a stack of 16 KiB ends at its guard page"
+  echo "kernel: SSE off, $stack bytes of stack, interrupts on the same stack: every answer as without; a stack of $short bytes ends at its guard page"
   ;;
 --kit)
   kit=target/staticlib/libboundary.a

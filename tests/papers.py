@@ -1,10 +1,10 @@
 #!/usr/bin/env python3
-"""Whether the papers name what is there: README.md, docs/DECISIONS.md, docs/PROVING.md and docs/PERFORMANCE.md against the tree.
+"""Whether the papers name what is there: README.md, docs/DECISIONS.md, docs/PROVING.md, docs/PERFORMANCE.md and docs/WALK.md against the tree.
 
   papers.py             fails on each of these, with the paper and the line:
                         a file or folder, in backquotes or in a code block, that does not exist (crates/, tests/, examples/ and the like; CRATE/specs/.. stands for crates/CRATE/specs/..);
                         `crate::name` where the crate is none, or has no such function or type; a crate of before (the table in DECISIONS.md), unless its name is something else now;
-                        a name in backquotes that stands nowhere in the tree;
+                        a name in backquotes that stands nowhere in the tree; a must-fail edit that no crate has;
                         in README's tables with a column `file`: a definition, theorem or function that does not stand in a file of its row;
                         a crate of crates.txt without a row in README's tables of crates, under its own floor, and a row without a crate
   papers.py --faults    copies of the papers with one slip each: each has to be told
@@ -16,7 +16,7 @@ import sys
 import reading
 
 ROOT = reading.ROOT
-PAPERS = ['README.md', 'docs/DECISIONS.md', 'docs/PROVING.md', 'docs/PERFORMANCE.md']
+PAPERS = ['README.md', 'docs/DECISIONS.md', 'docs/PROVING.md', 'docs/PERFORMANCE.md', 'docs/WALK.md']
 TOPS = ('crates/', 'tests/', 'examples/', 'plans/', 'include/', 'archives/', 'docs/', '.ci/')
 PARTS = ('specs', 'src', 'proofs', 'must-fail')
 CRATES = '## The crates, from the ground up'
@@ -140,6 +140,8 @@ def look(papers, tree):
                 if path and not path.startswith(MADE) and '*' not in path and '..' not in path and 'NAME' not in path:
                     if not tree.has(path.rstrip('/')):
                         say(paper, n, f'`{token.strip()}`: there is no {path}')
+            if re.fullmatch(r'\w+\.edit', token) and not any(f.endswith('/must-fail/' + token) for f in tree.files):
+                say(paper, n, f'`{token}` is no must-fail edit')
             pair = re.fullmatch(r'([a-z]\w*)::(\w+)', token)
             if pair and pair[2] not in tree.wrapper.get(pair[1], ()):
                 if pair[1] not in tree.crates:
@@ -224,15 +226,16 @@ SLIPS = [
     ('README.md', '`examples/rust`', '`examples/go`', 'there is no examples/go'),
     ('README.md', '`demand-3-lent` | `laws_lent/specs/Lending.antt`', '`demand-3-lent` | `laws_lent/specs/Refused.antt`', '`demand-3-lent` does not stand in'),
     ('README.md', '`map-lowest`', '`map-highest`', '`map-highest` does not stand in'),
-    ('README.md', '| `host_calls::decide`', '| `hostcalls::decide`', 'there is no crate hostcalls'),
+    ('README.md', '| `host_calls::decide_host`', '| `hostcalls::decide_host`', 'there is no crate hostcalls'),
+    ('README.md', '`equal_charge_refused.edit`', '`equal_charge_taken.edit`', '`equal_charge_taken.edit` is no must-fail edit'),
     ('README.md', '`iommufd::decide`', '`iommufd::decides`', 'nothing of that name in the code of iommufd'),
     ('README.md', '\n| `wire` |', '\n| `wires` |', 'the crate wire of crates.txt has no row'),
     ('README.md', '\n| `wire` |', '\n| `wires` |', 'a row for wires, which crates.txt has not'),
     ('README.md', '### The rules\n', '### The law\n', 'the crate rules_table stands under "The law"'),
-    ('docs/DECISIONS.md', '`lent_calls::commit`', '`lent_calls::commits`', 'nothing of that name in the code of lent_calls'),
+    ('docs/DECISIONS.md', '`lent_records::store`', '`lent_records::stores`', 'nothing of that name in the code of lent_records'),
     ('docs/DECISIONS.md', '`laws_good` was made', '`mappinglaws` was made', '`mappinglaws` is a crate of before'),
     ('docs/DECISIONS.md', '`lowestTried`', '`lowestEver`', '`lowestEver` stands nowhere in the tree'),
-    ('docs/PROVING.md', '`lent_head`', '`lent_heads`', '`lent_heads` stands nowhere in the tree'),
+    ('docs/PROVING.md', '`first-fires`', '`first-fired`', '`first-fired` stands nowhere in the tree'),
 ]
 
 

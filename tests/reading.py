@@ -34,7 +34,7 @@ ORDER = [
     ('The door', '"Opening a command, in order"', ['rules_calls/specs/Call.antt', 'rules_calls/specs/Named.antt']),
     ('Sequences of calls', "Demand 3's ledger", ['rules_history/specs/Calls.antt', 'rules_history/specs/Ledger.antt', 'rules_history/specs/Told.antt']),
     ('Isolation', '"A call on one space changes no mapping, list or device of another"', ['rules_table/specs/Untouched.antt', 'rules_history/specs/Alike.antt']),
-    ("The caller's memory", '"A lent slice of mapping records"', ['rules_table/specs/Layout.antt', 'rules_lent/src/lib.rt', 'rules_lent/specs/Lent.antt', 'rules_lent/specs/Entries.antt', 'rules_lent/specs/Sequence.antt']),
+    ("The caller's memory", '"A lent slice of mapping records"', ['rules_table/specs/Layout.antt', 'rules_table/specs/Words.antt', 'rules_lent/specs/Lent.antt', 'rules_lent/specs/Entries.antt', 'rules_lent/specs/Sequence.antt']),
 ]
 
 NAME = r'[^\s(){}.;,@"«»]+'
@@ -413,9 +413,9 @@ def faults(texts):
     moved = slip(answers, ('specs.Results.{result}', 'specs.Signs.{result}'))
     moved['crates/rules_calls/specs/Signs.antt'] = texts[results]
     cases = [
-        ('a contract that cites a definition of the code', slip('crates/iommufd/src/lib.rt', ('a ≡ freshAnswer limit', 'a ≡ firstId freshAnswer limit'))),
-        ('a rule that cites a definition of the code', slip(answers, ('use lib.IntN.{ℤ, pos, negsuc}\n', 'use lib.IntN.{ℤ, pos, negsuc}\nuse Rattle.lent_calls.specs.Lent.{objectOf}\n'), ('table = applied t e }', 'table = objectOf t e }'))),
-        ('a theorem that cites a definition of the code', slip('crates/laws_refusal/specs/BadTable.antt', ('pub bad-117 : (c : Call)', 'pub bad-117 : (c : firstId)'), ('use Rattle.rules_history', 'use Rattle.iommufd.specs.Deciding.{firstId}\nuse Rattle.rules_history'))),
+        ('a contract that cites a definition of the code', slip('crates/iommufd/src/lib.rt', ('a ≡ freshAnswer limit', 'a ≡ commandIn freshAnswer limit'))),
+        ('a rule that cites a definition of the code', slip(answers, ('use lib.IntN.{ℤ, pos, negsuc}\n', 'use lib.IntN.{ℤ, pos, negsuc}\nuse Rattle.lent_core.specs.Edits.{objectOf}\n'), ('table = applied t e }', 'table = objectOf t e }'))),
+        ('a theorem that cites a definition of the code', slip('crates/laws_refusal/specs/BadTable.antt', ('pub bad-117 : (c : Call)', 'pub bad-117 : (c : commandIn)'), ('use Rattle.rules_history', 'use Rattle.iommufd.specs.Deciding.{commandIn}\nuse Rattle.rules_history'))),
         ('a function that is gone', slip('crates/iommufd/src/lib.rt', ('pub fn detach(', 'pub fn let_go('))),
         ('a function without a contract', slip('crates/iommufd/src/lib.rt', ('ensures { λ a. ⌜ a ≡ outcome t (hostEdit t (detachOrder', 'promises { λ a. ⌜ a ≡ outcome t (hostEdit t (detachOrder'))),
         ('a theorem that is not in the file named', slip('README.md', ('| `demand-3` |', '| `demand-4` |'))),

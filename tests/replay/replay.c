@@ -20,9 +20,9 @@
 /* The items of a recording; those from FRESH on are calls. */
 enum { END, SEQUENCE, TABLE, FRESH, CALL, PREVIEW, BIND, ATTACH, DETACH, REACH, CHARGE };
 
-static const char *const entries[] = {
-	[FRESH] = "iommufd_fresh",   [CALL] = "iommufd_call",     [PREVIEW] = "iommufd_preview", [BIND] = "iommufd_bind",
-	[ATTACH] = "iommufd_attach", [DETACH] = "iommufd_detach", [REACH] = "iommufd_reach",     [CHARGE] = "iommufd_charge",
+static const char *const names[] = {
+	[FRESH] = "iommufd_fresh",   [CALL] = "iommufd_command",  [PREVIEW] = "iommufd_command_preview", [BIND] = "iommufd_bind",
+	[ATTACH] = "iommufd_attach", [DETACH] = "iommufd_detach", [REACH] = "iommufd_reach",             [CHARGE] = "iommufd_charge",
 };
 
 /* How far the run is: all sequences and calls, the calls of the last sequence, its seed, and the digest of all answers. */
@@ -170,8 +170,8 @@ static struct answer told(struct iommufd_number number)
 	return (struct answer){ .result = number.result, .value = number.value };
 }
 
-/* The call through its entry. Numbers are taken one by one because C does not say which argument is worked out first. */
-static struct answer make(uint32_t entry, struct lent *lent, uint32_t request)
+/* The call by its name in the header. Numbers are taken one by one because C does not say which argument is worked out first. */
+static struct answer make(uint32_t item, struct lent *lent, uint32_t request)
 {
 	struct iommufd_head *head = lent->head.lent;
 	struct iommufd_mapping *records = lent->records.lent;
@@ -179,25 +179,25 @@ static struct answer make(uint32_t entry, struct lent *lent, uint32_t request)
 	size_t count = lent->count;
 	struct answer got = { 0 };
 
-	if (entry == FRESH) {
+	if (item == FRESH) {
 		got.result = iommufd_fresh(head, records, count, take_large());
-	} else if (entry == CALL) {
-		got.result = iommufd_call(head, records, count, request, command->lent, command->size, area->lent, area->size);
-	} else if (entry == PREVIEW) {
-		got.result = iommufd_preview(head, records, count, request, command->lent, command->size, area->lent, area->size);
-	} else if (entry == BIND) {
+	} else if (item == CALL) {
+		got.result = iommufd_command(head, records, count, request, command->lent, command->size, area->lent, area->size);
+	} else if (item == PREVIEW) {
+		got.result = iommufd_command_preview(head, records, count, request, command->lent, command->size, area->lent, area->size);
+	} else if (item == BIND) {
 		uint64_t bitmap = take_large();
 		struct iommufd_reserved reserved;
 
 		memcpy(&reserved, take(1, sizeof reserved), sizeof reserved);
 		got.result = iommufd_bind(head, records, count, bitmap, reserved);
-	} else if (entry == ATTACH) {
+	} else if (item == ATTACH) {
 		uint32_t device = take_small(), space = take_small();
 
 		got.result = iommufd_attach(head, records, count, device, space);
-	} else if (entry == DETACH) {
+	} else if (item == DETACH) {
 		got.result = iommufd_detach(head, records, count, take_small());
-	} else if (entry == REACH) {
+	} else if (item == REACH) {
 		uint32_t device = take_small();
 		uint64_t address = take_large(), length = take_large();
 
@@ -234,9 +234,9 @@ static void print_answer(const char *whose, const struct answer *answer)
 }
 
 /* One call, compared with its recorded answer. */
-static void replay(uint32_t entry, struct lent *lent)
+static void replay(uint32_t item, struct lent *lent)
 {
-	int is_command = entry == CALL || entry == PREVIEW;
+	int is_command = item == CALL || item == PREVIEW;
 	uint32_t request = is_command ? take_small() : 0;
 	size_t command_size = is_command ? take_small() : 0, area_size = is_command ? take_small() : 0;
 	struct answer expected, got;
@@ -248,7 +248,7 @@ static void replay(uint32_t entry, struct lent *lent)
 	lent->area = lend(area_size, 1, calls / 8 % 8);
 	calls++;
 	sequence_calls++;
-	got = make(entry, lent, request);
+	got = make(item, lent, request);
 	got.digest = digest_of(lent);
 	expected = (struct answer){ .result = (int32_t)take_small() };
 	expected.value = take_large();
@@ -256,7 +256,7 @@ static void replay(uint32_t entry, struct lent *lent)
 
 	beside = written_beside(lent);
 	if (beside != NULL || got.result != expected.result || got.value != expected.value || got.digest != expected.digest) {
-		fprintf(stderr, "replay: call %" PRIu64 " differs: %s", calls, entries[entry]);
+		fprintf(stderr, "replay: call %" PRIu64 " differs: %s", calls, names[item]);
 		if (is_command)
 			fprintf(stderr, " with request 0x%" PRIx32, request);
 		fprintf(stderr, ", call %" PRIu64 " of sequence 0x%" PRIx64 "\n", sequence_calls, seed);

@@ -1,15 +1,16 @@
 -- COPY: the checks as the code makes them, then one law for each return: the numbers, the source, the place or the records refused, or the copy is made.
 use Prim.Native.Nat.{ℕ}
-use mathlib.Core.Path.{_≡_, ap, _∙_}
-use mathlib.Core.Bool.{Bool, not, _&&_}
+use mathlib.Core.Path.{_≡_, sym, ap, _∙_}
+use borrow.Author.Tests.{not-false}
+use mathlib.Core.Bool.{Bool, true, false, not, _&&_}
 use mathlib.Core.List.{List, [], _∷_, _++_}
 use mathlib.Core.Option.{Option}
 use native.Mathlib.Omega.{arith}
 use lib.Dec.{eqb}
-use Rattle.lists.specs.Checks.{Check, when, first, Refusals}
+use Rattle.lists.specs.Checks.{Check, when, first, Refusals, passed}
 use Rattle.ranges.specs.Ranges.{passes}
 use Rattle.rangelists.specs.declared.Found.{Found}
-use Rattle.rangelists.specs.Listed.{isFound}
+use Rattle.rangelists.specs.Listed.{found, isFound}
 use Rattle.rules_table.specs.Flags.{bit, unknown}
 use Rattle.rules_table.specs.declared.Object.{Object}
 use Rattle.rules_table.specs.declared.Mapping.{Mapping}
@@ -18,10 +19,8 @@ use Rattle.rules_table.specs.Charge.{freeMapping}
 use Rattle.rules_calls.specs.declared.Edit.{Edit}
 use Rattle.rules_calls.specs.Edits.{refuse, isNone}
 use Rattle.edits.specs.Settled.{checked, checked-last, settle-refused, settle-taken}
-use Rattle.scan.specs.declared.Survey.{Survey}
 use Rattle.scan.specs.declared.Source.{Source}
 use Rattle.scan.specs.declared.Source.the-variants.{Missing}
-use Rattle.scan.specs.Surveyed.{surveyOf}
 use Rattle.rules_calls.specs.Copy.{sourceOf, sourceMapping, sourceChecks, recordChecks, copyOf, copying, copyNumberChecks, copyChecks, copyEdit}
 use Rattle.landing.specs.declared.Target.{Target}
 use Rattle.landing.specs.declared.Placing.{Placing}
@@ -89,6 +88,11 @@ module _ (os : List Object) (ms : List Mapping) (t : Target) (source from : ℕ)
   unfolding copyNumberChecks
   numbers-refuse = (λ y. omega (arith, y), (λ y. omega (arith, y), (λ y. omega (arith, y), (λ y. omega (arith, y), (λ y. omega (arith, y), (λ y. omega (arith, y), (λ y. omega (arith, y), tt)))))))
 
+  -- where they pass, the target is a space
+  pub numbers-known : (w : ℕ) → w ≡ first numbers 0 → w ≡ 0 → spaceAt os (t .space) ≡ true
+  unfolding copyNumberChecks
+  numbers-known w e z = not-false (spaceAt os (t .space)) (passed numbers 0 (when false 0) numbers-refuse (sym e ∙ z) 5 (omega arith))
+
   source-refuse : Refusals (sourceChecks (t .flags) named) 0
   unfolding sourceChecks
   source-refuse = (λ y. omega (arith, y), (λ y. omega (arith, y), tt))
@@ -125,9 +129,8 @@ module _ (os : List Object) (ms : List Mapping) (t : Target) (source from : ℕ)
       unfolding copyEdit
       by-place r h k = settle-refused (p .errno) (first all 0) r _ (after (p .errno) (stage-refused places records (p .errno) (at .errno) h)) h k
 
-      module _ (zp : p .errno ≡ 0) (v : Survey) (ev : v ≡ surveyOf ms) (full : ℕ) (ef : full ≡ first (recordChecks (optionOf (v .free))) 0) where
+      module _ (zp : p .errno ≡ 0) (free : Found) (ev : free ≡ found (freeMapping ms)) (full : ℕ) (ef : full ≡ first (recordChecks (optionOf free)) 0) where
         records-are : full ≡ first all 0
-        unfolding surveyOf
         records-are =
             after full (stage-passed places records (p .errno) full (place-refuse os ms (t .space) (bit 0 (t .flags)) (t .length) (t .address)) (at .errno) zp (ef ∙ rw (ev, option-found (freeMapping ms))))
 
@@ -137,6 +140,6 @@ module _ (os : List Object) (ms : List Mapping) (t : Target) (source from : ℕ)
         by-records r h k = settle-refused full (first all 0) r _ records-are h k
 
         -- the copy is made
-        pub by-copying : (r : Edit) (m n : Mapping) → full ≡ 0 → m ≡ sourceMapping (mappingIn o) → n ≡ copyOf m (t .flags) (t .space) (t .length) (p .address) → r ≡ mapped (optionOf (v .free)) n → r ≡ edit
-        unfolding copyEdit copying surveyOf
+        pub by-copying : (r : Edit) (m n : Mapping) → full ≡ 0 → m ≡ sourceMapping (mappingIn o) → n ≡ copyOf m (t .flags) (t .space) (t .length) (p .address) → r ≡ mapped (optionOf free) n → r ≡ edit
+        unfolding copyEdit copying
         by-copying r m n zf em en er = settle-taken full (first all 0) r _ records-are zf (er ∙ rw (en, em, is-named, ev, option-found (freeMapping ms), at .address zp))

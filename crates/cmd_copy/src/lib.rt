@@ -3,17 +3,19 @@ ghost use mathlib.Core.Bool.{true};
 ghost use mathlib.Core.List.{List};
 ghost use mathlib.Core.Path.{_≡_};
 ghost use Prim.Native.Nat.{ℕ};
-ghost use Rattle.lists.specs.Each.{Each};
+ghost use lib.ListN.{length};
 ghost use Rattle.lists.specs.Checks.{first};
 ghost use Rattle.rules_table.specs.declared.Object.{Object};
 ghost use Rattle.rules_table.specs.Records.{spaceAt};
-ghost use Rattle.table.specs.Checked.{recordOk};
-ghost use Rattle.digests.specs.Digest.{Seen};
+ghost use Rattle.table.specs.Checked.{pageAt};
+ghost use Rattle.rules_table.specs.Words.{objectsIn};
+ghost use Rattle.layout_mappings.specs.Words.{recordsOf};
+ghost use Rattle.check_mappings.specs.Told.{Told};
 ghost use Rattle.rules_calls.specs.Copy.{sourceMapping, sourceChecks, recordChecks, copyOf};
 ghost use Rattle.edits.specs.Numbers.{copyNumberChecksAt, copyEditAt, optionOf};
 ghost use Rattle.rules_calls.specs.Edits.{isNone};
 ghost use Rattle.scan.specs.Sourced.{mappingIn};
-use digests::Digest;
+use check_mappings::Pass;
 use landing::Target;
 use rangelists::Found;
 use rules_calls::Edit;
@@ -112,34 +114,38 @@ fn copied(m: Mapping, t: Target, address: u64) -> Mapping
     }
 }
 
-// The digest is that of the objects for the target's space and the source's.
-pub fn decide_copy(d: Digest, ms: [Mapping; 128], t: Target, source: u32, from: u64) -> Edit
-    requires { ⌜ ((os : List Object) × Each (λ m. recordOk os m ≡ true) ms) ⌝ }
-    ensures { λ e. ⌜ ((os : List Object) → Seen os (t .space) source d → e ≡ copyEditAt os ms (t .flags) (t .space) source (t .length) (t .address) from) ⌝ }
+// What the check found: p of the mapping records; a and b, the alignments of the target's space and of the source's, 0 where there is no space.
+pub fn decide_copy<'a>(
+    h: &'a [u64; 865],
+    ws: &'a [[u64; 5]],
+    p: Pass,
+    a: u64,
+    b: u64,
+    t: Target,
+    source: u32,
+    from: u64,
+) -> Edit
+    requires { ⌜ (length (now ws) ≡ 128) × (p .good ≡ true) × ((pages marks : List ℕ) × Told pages (recordsOf (now ws)) p marks) ⌝ }
+    ensures { λ e. ⌜ (a ≡ pageAt (objectsIn (now (h .entry))) (t .space) → b ≡ pageAt (objectsIn (now (h .entry))) source → e ≡ copyEditAt (objectsIn (now (h .entry))) (recordsOf (now (ws .entry))) (t .flags) (t .space) source (t .length) (t .address) from) ⌝ }
 {
-    let to = d.first;
-    let k = to.kind;
-    let of = d.second;
-    let l = of.kind;
-    let wrong = copy_number_errno(table::is_space(k), table::is_space(l), t, from);
+    let wrong = copy_number_errno(a != 0, b != 0, t, from);
     if wrong != 0 {
         return edits::refusal(wrong);
     }
-    let o = scan::find_mapping(ms, source, from, t.length);
+    let o = scan::find_mapping(ws, source, from, t.length);
     let denied = source_errno(t.flags, o);
     if denied != 0 {
         return edits::refusal(denied);
     }
-    let p = cmd_map::place_in(d, ms, t);
-    if p.errno != 0 {
-        return edits::refusal(p.errno);
+    let place = cmd_map::place_in(h, ws, a, t);
+    if place.errno != 0 {
+        return edits::refusal(place.errno);
     }
-    let v = scan::survey_of(ms);
-    let free = v.free;
+    let free = scan::free_record(ws);
     let full = record_errno(free);
     if full != 0 {
         return edits::refusal(full);
     }
     let m = source_mapping(o);
-    cmd_map::put_new(free, copied(m, t, p.address))
+    cmd_map::put_new(free, copied(m, t, place.address))
 }

@@ -1,13 +1,16 @@
 -- MAP, one law for each return: the numbers, the place or the room refused, or the mapping is made.
 use Prim.Native.Nat.{ℕ}
-use mathlib.Core.Path.{_≡_, _∙_}
+use mathlib.Core.Path.{_≡_, sym, _∙_}
+use mathlib.Core.Bool.{true, false}
+use borrow.Author.Tests.{not-false}
 use mathlib.Core.List.{List, _++_}
 use native.Mathlib.Omega.{arith}
-use Rattle.lists.specs.Checks.{Check, first, Refusals}
+use Rattle.lists.specs.Checks.{Check, when, first, Refusals, passed}
 use Rattle.ranges.specs.Pages.{pagesTouched}
 use Rattle.rules_table.specs.Flags.{bit}
 use Rattle.rules_table.specs.declared.Object.{Object}
 use Rattle.rules_table.specs.declared.Mapping.{Mapping}
+use Rattle.rules_table.specs.Records.{spaceAt}
 use Rattle.rules_table.specs.Charge.{charge, freeMapping, freeBacking}
 use Rattle.rules_calls.specs.declared.Edit.{Edit}
 use Rattle.rules_calls.specs.Edits.{refuse, numberIn}
@@ -42,6 +45,11 @@ module _ (limit : ℕ) (os : List Object) (ms : List Mapping) (t : Target) (z me
   unfolding mapNumberChecks
   numbers-refuse = (λ y. omega (arith, y), (λ y. omega (arith, y), (λ y. omega (arith, y), (λ y. omega (arith, y), (λ y. omega (arith, y), (λ y. omega (arith, y), tt))))))
 
+  -- where they pass, the target is a space
+  pub numbers-known : (w : ℕ) → w ≡ first numbers 0 → w ≡ 0 → spaceAt os (t .space) ≡ true
+  unfolding mapNumberChecks
+  numbers-known w e z = not-false (spaceAt os (t .space)) (passed numbers 0 (when false 0) numbers-refuse (sym e ∙ z) 5 (omega arith))
+
   -- the numbers refuse
   pub by-numbers : (w : ℕ) (r : Edit) → w ≡ first numbers 0 → (w ≡ 0 → ⊥) → r ≡ refuse w → r ≡ edit
   unfolding mapEdit mapChecks
@@ -54,13 +62,13 @@ module _ (limit : ℕ) (os : List Object) (ms : List Mapping) (t : Target) (z me
     by-place r h k =
         settle-refused (p .errno) (first all 0) r _ (stage-passed numbers (places ++ room) w (p .errno) numbers-refuse ew zw (stage-refused places room (p .errno) (at .errno) h)) h k
 
-    module _ (zp : p .errno ≡ 0) (v : Survey) (ev : v ≡ surveyOf ms) (pages full : ℕ) (ep : pages ≡ pagesTouched memory (t .length))
-        (ef : full ≡ first (roomChecks (optionOf (v .free)) limit (v .charge) pages) 0) where
+    module _ (zp : p .errno ≡ 0) (v : Survey) (ev : v ≡ surveyOf ms) (pages full lim : ℕ) (el : lim ≡ limit) (ep : pages ≡ pagesTouched memory (t .length))
+        (ef : full ≡ first (roomChecks (optionOf (v .free)) lim (v .charge) pages) 0) where
       room-is : full ≡ first all 0
       unfolding mapChecks surveyOf
       room-is =
           stage-passed numbers (places ++ room) w full numbers-refuse ew zw
-          (stage-passed places room (p .errno) full (place-refuse os ms (t .space) (bit 0 (t .flags)) (t .length) (t .address)) (at .errno) zp (ef ∙ rw (ev, ep, option-found (freeMapping ms))))
+          (stage-passed places room (p .errno) full (place-refuse os ms (t .space) (bit 0 (t .flags)) (t .length) (t .address)) (at .errno) zp (ef ∙ rw (ev, el, ep, option-found (freeMapping ms))))
 
       -- the room refuses
       pub by-room : (r : Edit) → (full ≡ 0 → ⊥) → r ≡ refuse full → r ≡ edit

@@ -1,20 +1,23 @@
-// What MAP decides over a good table: the numbers of the command first, then the place, then one pass over the records for its room. COPY shares the parts of a new mapping.
+// What MAP decides over a good table: the numbers of the command first, then the place, then the room that the check found. COPY shares the parts of a new mapping.
 ghost use mathlib.Core.Bool.{true};
 ghost use mathlib.Core.List.{List};
 ghost use mathlib.Core.Path.{_≡_};
 ghost use Prim.Native.Nat.{ℕ, _+_, _≤_};
+ghost use lib.ListN.{length};
 ghost use Rattle.lists.specs.Tests.{onlyIf};
-ghost use Rattle.lists.specs.Each.{Each};
 ghost use Rattle.lists.specs.Checks.{first};
 ghost use Rattle.rules_table.specs.declared.Object.{Object};
 ghost use Rattle.rules_table.specs.Records.{spaceAt};
-ghost use Rattle.table.specs.Checked.{recordOk};
-ghost use Rattle.digests.specs.Digest.{Seen};
+ghost use Rattle.table.specs.Checked.{pageAt};
+ghost use Rattle.rules_table.specs.Spaces.{alignment};
+ghost use Rattle.rules_table.specs.Words.{headIn, objectsIn};
+ghost use Rattle.layout_mappings.specs.Words.{recordsOf};
+ghost use Rattle.check_mappings.specs.Told.{Told};
 ghost use Rattle.landing.specs.Placing.{Placed};
 ghost use Rattle.rules_calls.specs.Edits.{numberIn};
 ghost use Rattle.rules_calls.specs.Map.{rightsOf, mapped, noRight, wrongLength, fixedPasses, roomChecks, overLimit, foundOf};
 ghost use Rattle.edits.specs.Numbers.{mapNumberChecksAt, mapEditAt, optionOf};
-use digests::Digest;
+use check_mappings::Pass;
 use landing::Placing;
 use landing::Target;
 use rangelists::Found;
@@ -79,21 +82,20 @@ pub fn fixed_passes(flags: u32, x: u64, n: u64) -> bool
     checks::both(opening::is_fixed(flags), ranges::passes_max(x, n))
 }
 
-// The place of a target, by the digest of the objects for its space. What the range asked touches is asked for a fixed address alone, what blocks is gathered for an automatic one.
-pub fn place_in(d: Digest, ms: [Mapping; 128], t: Target) -> Placing
-    ensures { λ p. ⌜ ((os : List Object) (b : ℕ) → Seen os (t .space) b d → Placed os ms t p) ⌝ }
+// The place of a target in a space of alignment a. What the range asked touches is asked for a fixed address alone.
+pub fn place_in<'a>(h: &'a [u64; 865], ws: &'a [[u64; 5]], a: u64, t: Target) -> Placing
+    requires { ⌜ length (now ws) ≡ 128 ⌝ }
+    ensures { λ p. ⌜ (a ≡ alignment (objectsIn (now (h .entry))) (t .space) → Placed (objectsIn (now (h .entry))) (recordsOf (now (ws .entry))) t p) ⌝ }
 {
-    let blocks = d.blocks;
     if opening::is_fixed(t.flags) {
         let r = ranges::span_of(t.address, t.length);
-        let reserved = blocks::is_blocked(blocks, t.space, r);
-        let touched = scan::is_taken(ms, t.space, r);
-        return landing::place_fixed(d.alignment, t, reserved, touched);
+        let reserved = reserved_ranges::is_touched(h, t.space, r);
+        let touched = scan::is_taken(ws, t.space, r);
+        return landing::place_fixed(a, t, reserved, touched);
     }
-    let o = d.first;
+    let o = layout_objects::object_of(h, t.space);
     let allow = o.allow;
-    let blocked = blocking::blocked_in(blocks, ms, t.space);
-    landing::place_automatic(d.alignment, allow, blocked, t)
+    landing::place_automatic(h, ws, a, allow, t)
 }
 
 // ---- MAP
@@ -164,33 +166,33 @@ fn founded(backing: u32, t: Target, memory: u64, address: u64) -> Mapping
     }
 }
 
-// The digest is that of the objects for the target's space.
-pub fn decide_map(
-    limit: u64,
-    d: Digest,
-    ms: [Mapping; 128],
+// What the check found: p of the mapping records, with the marks of their backings, and a, the alignment of the target's space, 0 where it is no space.
+pub fn decide_map<'a>(
+    h: &'a [u64; 865],
+    ws: &'a [[u64; 5]],
+    p: Pass,
+    marks: &'a [u8],
+    a: u64,
     t: Target,
     zero: u32,
     memory: u64,
 ) -> Edit
-    requires { ⌜ ((os : List Object) × Each (λ m. recordOk os m ≡ true) ms) ⌝ }
-    ensures { λ e. ⌜ ((os : List Object) (b : ℕ) → Seen os (t .space) b d → e ≡ mapEditAt limit os ms (t .flags) (t .space) zero memory (t .length) (t .address)) ⌝ }
+    requires { ⌜ (length (now ws) ≡ 128) × (length (now marks) ≡ 129) × (p .good ≡ true) × ((pages : List ℕ) × Told pages (recordsOf (now ws)) p (now marks)) ⌝ }
+    ensures { λ e. ⌜ (a ≡ pageAt (objectsIn (now (h .entry))) (t .space) → e ≡ mapEditAt (headIn (now (h .entry)) .limit) (objectsIn (now (h .entry))) (recordsOf (now (ws .entry))) (t .flags) (t .space) zero memory (t .length) (t .address)) ⌝ }
 {
-    let o = d.first;
-    let k = o.kind;
-    let wrong = map_number_errno(table::is_space(k), t, zero, memory);
+    let wrong = map_number_errno(a != 0, t, zero, memory);
     if wrong != 0 {
         return edits::refusal(wrong);
     }
-    let p = place_in(d, ms, t);
-    if p.errno != 0 {
-        return edits::refusal(p.errno);
+    let place = place_in(h, ws, a, t);
+    if place.errno != 0 {
+        return edits::refusal(place.errno);
     }
-    let v = scan::survey_of(ms);
+    let v = scan::survey_of(ws, p, marks);
     let free = v.free;
     let full = room_errno(
         free,
-        limit,
+        layout_objects::limit_of(h),
         v.charge,
         ranges::pages_touched(memory, t.length),
     );
@@ -198,5 +200,5 @@ pub fn decide_map(
         return edits::refusal(full);
     }
     let number = v.backing;
-    put_new(free, founded(number_in(number), t, memory, p.address))
+    put_new(free, founded(number_in(number), t, memory, place.address))
 }

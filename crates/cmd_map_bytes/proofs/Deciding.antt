@@ -6,16 +6,10 @@ use Rattle.wire.specs.Fields.{field}
 use Rattle.rules_table.specs.declared.Object.{Object}
 use Rattle.rules_table.specs.declared.Mapping.{Mapping}
 use Rattle.rules_calls.specs.declared.Edit.{Edit}
-use Rattle.digests.specs.declared.Digest.{Digest}
-use Rattle.digests.specs.Digest.{Seen}
 use Rattle.rules_calls.specs.Map.{mapFields, mapEdit}
 use Rattle.rules_calls.specs.Copy.{copyFields, copyEdit}
 use Rattle.rules_calls.specs.Unmap.{unmapFields, unmapEdit}
 use Rattle.edits.specs.Numbers.{mapEditAt, copyEditAt, unmapEditAt}
-
--- a digest for the ids in the bytes is one for the ids that were read
-pub seen-at : (os : List Object) (a a′ b b′ : ℕ) (d : Digest) → a ≡ a′ → b ≡ b′ → Seen os a′ b′ d → Seen os a b d
-seen-at os a a′ b b′ d e f h = rw (e, f) h
 
 module _ (os : List Object) (ms : List Mapping) (bytes : List ℕ) (e : Edit) where
   pub map-fields : (limit flags s z memory n x : ℕ) → s ≡ field 4 bytes 8 → flags ≡ field 4 bytes 4 → n ≡ field 8 bytes 24 → x ≡ field 8 bytes 32 → z ≡ field 4 bytes 12 → memory ≡ field 8 bytes 16

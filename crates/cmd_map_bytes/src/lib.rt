@@ -8,16 +8,17 @@ ghost use Rattle.lists.specs.Each.{Each};
 ghost use Rattle.wire.specs.Fields.{field};
 ghost use Rattle.rules_table.specs.declared.Object.{Object};
 ghost use Rattle.rules_table.specs.Records.{spaceAt};
-ghost use Rattle.table.specs.Checked.{recordOk};
+ghost use Rattle.table.specs.Checked.{recordOk, pageAt};
+ghost use Rattle.rules_table.specs.Words.{headIn, objectsIn};
+ghost use Rattle.layout_mappings.specs.Words.{recordsOf};
+ghost use Rattle.check_mappings.specs.Told.{Told};
 ghost use Rattle.rules_calls.specs.Answers.{replied};
-ghost use Rattle.digests.specs.Digest.{Seen};
 ghost use Rattle.rules_calls.specs.Map.{mapFields, mapEdit};
 ghost use Rattle.rules_calls.specs.Copy.{copyFields, copyEdit};
 ghost use Rattle.rules_calls.specs.Unmap.{unmapFields, unmapEdit};
-use digests::Digest;
+use check_mappings::Pass;
 use landing::Target;
 use rules_calls::Edit;
-use rules_table::Mapping;
 
 // The reply, where there is one: a number of 8 bytes.
 fn write_value(cmd: &mut [u8], off: usize, errno: u8, value: u64)
@@ -29,10 +30,18 @@ fn write_value(cmd: &mut [u8], off: usize, errno: u8, value: u64)
     }
 }
 
-// MAP: a new mapping with a backing of its own. Its address is written, also where it was fixed.
-pub fn map(limit: u64, d: Digest, ms: [Mapping; 128], cmd: &mut [u8]) -> Edit
-    requires { ⌜ (40 ≤ length (now cmd)) × ((os : List Object) × Each (λ m. recordOk os m ≡ true) ms) ⌝ }
-    ensures { λ e. ⌜ ((os : List Object) (b : ℕ) → Seen os (field 4 (now (cmd .entry)) 8) b d → e ≡ mapEdit limit os ms (mapFields (now (cmd .entry)))) × (now (cmd .exit) ≡ replied 8 32 (e .errno) (e .value) (now (cmd .entry))) ⌝ }
+// MAP: a new mapping with a backing of its own. Its address is written, also where it was fixed. a is the alignment of the space, 0 where there is none.
+pub fn map<'a>(
+    h: &'a [u64; 865],
+    ws: &'a [[u64; 5]],
+    p: Pass,
+    marks: &'a [u8],
+    a: u64,
+    cmd: &mut [u8],
+) -> Edit
+    requires { ⌜ (40 ≤ length (now cmd)) × (length (now ws) ≡ 128) × (length (now marks) ≡ 129) × (p .good ≡ true) × ((pages : List ℕ) × Told pages (recordsOf (now ws)) p (now marks)) ⌝ }
+    ensures { λ e. ⌜ (a ≡ pageAt (objectsIn (now (h .entry))) (field 4 (now (cmd .entry)) 8) → e ≡ mapEdit (headIn (now (h .entry)) .limit) (objectsIn (now (h .entry))) (recordsOf (now (ws .entry))) (mapFields (now (cmd .entry))))
+        × (now (cmd .exit) ≡ replied 8 32 (e .errno) (e .value) (now (cmd .entry))) ⌝ }
 {
     let target = Target {
         space: wire::read32(cmd, 8),
@@ -42,15 +51,23 @@ pub fn map(limit: u64, d: Digest, ms: [Mapping; 128], cmd: &mut [u8]) -> Edit
     };
     let zero = wire::read32(cmd, 12);
     let memory = wire::read64(cmd, 16);
-    let e = cmd_map::decide_map(limit, d, ms, target, zero, memory);
+    let e = cmd_map::decide_map(h, ws, p, marks, a, target, zero, memory);
     write_value(cmd, 32, e.errno, e.value);
     e
 }
 
-// COPY: a mapping of a source's memory and backing in a target space.
-pub fn copy(d: Digest, ms: [Mapping; 128], cmd: &mut [u8]) -> Edit
-    requires { ⌜ (40 ≤ length (now cmd)) × ((os : List Object) × Each (λ m. recordOk os m ≡ true) ms) ⌝ }
-    ensures { λ e. ⌜ ((os : List Object) → Seen os (field 4 (now (cmd .entry)) 8) (field 4 (now (cmd .entry)) 12) d → e ≡ copyEdit os ms (copyFields (now (cmd .entry)))) × (now (cmd .exit) ≡ replied 8 24 (e .errno) (e .value) (now (cmd .entry))) ⌝ }
+// COPY: a mapping of a source's memory and backing in a target space. a and b are the alignments of the two.
+pub fn copy<'a>(
+    h: &'a [u64; 865],
+    ws: &'a [[u64; 5]],
+    p: Pass,
+    a: u64,
+    b: u64,
+    cmd: &mut [u8],
+) -> Edit
+    requires { ⌜ (40 ≤ length (now cmd)) × (length (now ws) ≡ 128) × (p .good ≡ true) × ((pages marks : List ℕ) × Told pages (recordsOf (now ws)) p marks) ⌝ }
+    ensures { λ e. ⌜ (a ≡ pageAt (objectsIn (now (h .entry))) (field 4 (now (cmd .entry)) 8) → b ≡ pageAt (objectsIn (now (h .entry))) (field 4 (now (cmd .entry)) 12) → e ≡ copyEdit (objectsIn (now (h .entry))) (recordsOf (now (ws .entry))) (copyFields (now (cmd .entry))))
+        × (now (cmd .exit) ≡ replied 8 24 (e .errno) (e .value) (now (cmd .entry))) ⌝ }
 {
     let target = Target {
         space: wire::read32(cmd, 8),
@@ -60,20 +77,21 @@ pub fn copy(d: Digest, ms: [Mapping; 128], cmd: &mut [u8]) -> Edit
     };
     let source = wire::read32(cmd, 12);
     let from = wire::read64(cmd, 32);
-    let e = cmd_copy::decide_copy(d, ms, target, source, from);
+    let e = cmd_copy::decide_copy(h, ws, p, a, b, target, source, from);
     write_value(cmd, 24, e.errno, e.value);
     e
 }
 
 // UNMAP: the mappings inside a range go, or all of the space. Their bytes are written.
-pub fn unmap(known: bool, ms: [Mapping; 128], cmd: &mut [u8]) -> Edit
-    requires { ⌜ (24 ≤ length (now cmd)) × ((os : List Object) × Each (λ m. recordOk os m ≡ true) ms) ⌝ }
-    ensures { λ e. ⌜ ((os : List Object) → known ≡ spaceAt os (field 4 (now (cmd .entry)) 4) → e ≡ unmapEdit os ms (unmapFields (now (cmd .entry)))) × (now (cmd .exit) ≡ replied 8 16 (e .errno) (e .value) (now (cmd .entry))) ⌝ }
+pub fn unmap(known: bool, ws: &[[u64; 5]], cmd: &mut [u8]) -> Edit
+    requires { ⌜ (24 ≤ length (now cmd)) × (length (now ws) ≡ 128) × ((os : List Object) × Each (λ m. recordOk os m ≡ true) (recordsOf (now ws))) ⌝ }
+    ensures { λ e. ⌜ ((os : List Object) → known ≡ spaceAt os (field 4 (now (cmd .entry)) 4) → e ≡ unmapEdit os (recordsOf (now (ws .entry))) (unmapFields (now (cmd .entry))))
+        × (now (cmd .exit) ≡ replied 8 16 (e .errno) (e .value) (now (cmd .entry))) ⌝ }
 {
     let space = wire::read32(cmd, 4);
     let address = wire::read64(cmd, 8);
     let length = wire::read64(cmd, 16);
-    let e = cmd_unmap::decide_unmap(known, ms, space, address, length);
+    let e = cmd_unmap::decide_unmap(known, ws, space, address, length);
     write_value(cmd, 16, e.errno, e.value);
     e
 }

@@ -1,5 +1,5 @@
--- The list of an area, and the blocks that it may touch.
-use Prim.Native.Nat.{ℕ, _+_, _-_, _*_, _≤_, _<_, min}
+-- The list of an area, and what DESTROY and ALLOW_IOVAS check.
+use Prim.Native.Nat.{ℕ, _+_, _-_, _*_, _≤_, _<_}
 use mathlib.Core.Path.{_≡_, refl, sym, ap, _∙_}
 use mathlib.Core.Bool.{Bool, false, _||_}
 use mathlib.Core.List.{List, [], _∷_}
@@ -8,15 +8,10 @@ use lib.ListN.{length}
 use borrow.Author.Tests.{lt-ltb, le-ltb, ltb-false}
 use Rattle.lists.specs.Search.{any}
 use Rattle.lists.specs.Checks.{when, first, first-append, first-stays, first-goes, Refusals, passed}
-use Rattle.ranges.specs.declared.Range.{Range}
-use Rattle.ranges.specs.Ranges.{share}
 use Rattle.rangelists.specs.declared.Allowed.{Allowed}
-use Rattle.blocks.specs.declared.Blocks.{Blocks}
-use Rattle.blocks.specs.Blocked.{leftFor, blocked, left-start}
 use Rattle.wire.specs.Fields.{field}
 use Rattle.rules_table.specs.declared.Object.{Object}
 use Rattle.rules_table.specs.Records.{freeObject, isFree, isSpace, isAttached, objectAt, spaceAt, attachedTo}
-use Rattle.rules_table.specs.Good.{listsTouch}
 use Rattle.rules_calls.specs.declared.Change.{Change}
 use Rattle.rules_calls.specs.declared.Change.the-variants.{Put}
 use Rattle.rules_calls.specs.declared.Edit.{Edit}
@@ -46,12 +41,6 @@ pub eight : (a b c d e f g h : ℕ) (p q r s t u v w : ℕ) → a ≡ p → b �
     → _≡_ {A = List ℕ} (a ∷ b ∷ c ∷ d ∷ e ∷ f ∷ g ∷ h ∷ []) (p ∷ q ∷ r ∷ s ∷ t ∷ u ∷ v ∷ w ∷ [])
 eight a b c d e f g h p q r s t u v w ea eb ec ed ee ef eg eh = rw (ea, eb, ec, ed, ee, ef, eg, eh)
 
--- a loop over the blocks: at place 0 all are left
-pub touched-start : (b : Blocks) (s n : ℕ) (qs : List Range) → n ≡ min (b .count) 128
-    → any (λ r. any (share r) qs) (leftFor n s (b .spaces) (b .starts) (b .lasts) 0) ≡ listsTouch (blocked s b) qs
-unfolding blocked listsTouch
-touched-start b s n qs e = rw e (ap (any (λ r. any (share r) qs)) (left-start (min (b .count) 128) s (b .spaces) (b .starts) (b .lasts)))
-
 -- an allow list by its two columns
 pub list-is : (n : ℕ) (a b p q : List ℕ) → a ≡ p → b ≡ q → _≡_ {A = Allowed} record { count = n; starts = a; lasts = b } record { count = n; starts = p; lasts = q }
 list-is n a b p q e f = rw (e, f)
@@ -74,14 +63,10 @@ module _ (os : List Object) (id : ℕ) (o : Object) (e : o ≡ objectAt os id) w
 
 -- ---- ALLOW_IOVAS: the checks on the numbers, then those on the list
 
--- an object says itself whether it is a space, and stands so in a list of one
+-- an object says itself whether it is a space
 pub known-at : (os : List Object) (s : ℕ) (o : Object) (b : Bool) → o ≡ objectAt os s → b ≡ isSpace (o .kind) → b ≡ spaceAt os s
 unfolding spaceAt
 known-at os s o b e h = h ∙ ap (λ (x : Object). isSpace (x .kind)) e
-
-pub known-alone : (o : Object) (b : Bool) → b ≡ isSpace (o .kind) → b ≡ spaceAt (o ∷ []) 1
-unfolding spaceAt objectAt
-known-alone o b h = h
 
 module _ (os : List Object) (s count z : ℕ) (area : List ℕ) where
   numbers-refuse : Refusals (allowNumberChecksAt os s count z (length area)) 0

@@ -1,26 +1,19 @@
 // What the commands on spaces decide over a good table.
-ghost use mathlib.Core.Bool.{_&&_};
 ghost use mathlib.Core.List.{List};
 ghost use mathlib.Core.Path.{_≡_};
 ghost use Prim.Native.Nat.{ℕ, _+_, _-_, _*_, _≤_, _<_};
-ghost use lib.Dec.{eqb};
 ghost use lib.ListN.{length};
 ghost use Rattle.lists.specs.Checks.{first};
 ghost use Rattle.lists.specs.Search.{any};
-ghost use Rattle.ranges.specs.Ranges.{share};
-ghost use Rattle.rangelists.specs.Listed.{found, allowed};
-ghost use Rattle.blocks.specs.Blocked.{blocked};
+ghost use Rattle.rangelists.specs.Listed.{found};
 ghost use Rattle.rules_table.specs.Records.{attachedTo, objectAt, spaceAt};
 ghost use Rattle.rules_table.specs.Charge.{freeRecord};
-ghost use Rattle.rules_table.specs.Good.{listsTouch};
-ghost use Rattle.facts.specs.Gathered.{Gathered};
+ghost use Rattle.rules_table.specs.Words.{objectsIn};
 ghost use Rattle.rules_calls.specs.Objects.{allocEdit, removal, destroyEdit};
 ghost use Rattle.rules_calls.specs.Allow.{numberAt, column, areaList, withAllow, listChecks};
 ghost use Rattle.edits.specs.Numbers.{allowNumberChecksAt, allowEditAt, rangesChecksAt};
-use blocks::Blocks;
 use rangelists::Allowed;
 use rangelists::Found;
-use ranges::Range;
 use rules_calls::Change;
 use rules_calls::Edit;
 use rules_table::Kind;
@@ -105,35 +98,6 @@ fn area_list(area: &[u8], count: u32) -> Allowed
     }
 }
 
-// Whether a block of space `key` is one of space s and touches the list.
-fn block_touches(key: u32, s: u32, block: Range, l: Allowed) -> bool
-    ensures { λ r. ⌜ r ≡ (eqb key s && any (share block) (allowed l)) ⌝ }
-{
-    if key != s {
-        return false;
-    }
-    rangelists::is_found(rangelists::allowed_touched(l, block))
-}
-
-// Whether a reserved range of the space touches the list.
-fn reserved_touches(b: Blocks, s: u32, l: Allowed) -> bool
-    ensures { λ r. ⌜ r ≡ listsTouch (blocked s b) (allowed l) ⌝ }
-{
-    let n = blocks::used(b.count);
-    let mut i: usize = 0;
-    while i < n {
-        let block = Range {
-            start: b.starts[i],
-            last: b.lasts[i],
-        };
-        if block_touches(b.spaces[i], s, block, l) {
-            return true;
-        }
-        i += 1;
-    }
-    false
-}
-
 fn with_allow(o: Object, l: Allowed) -> Object
     ensures { λ r. ⌜ r ≡ withAllow o l ⌝ }
 {
@@ -166,28 +130,35 @@ fn number_errno(known: bool, count: u32, zero: u32, room: usize) -> u8
     )
 }
 
-fn list_errno(b: Blocks, space: u32, l: Allowed) -> u8
-    ensures { λ r. ⌜ ((os : List Object) → Gathered os b → r ≡ first (listChecks os space l) 0) ⌝ }
+fn list_errno(h: &[u64; 865], space: u32, l: Allowed) -> u8
+    ensures { λ r. ⌜ r ≡ first (listChecks (objectsIn (now (h .entry))) space l) 0 ⌝ }
 {
     let wrong = checks::either(
         !rangelists::allowed_valid(l),
         rangelists::allowed_overlap(l),
     );
-    let touches = reserved_touches(b, space, l);
+    let touches = reserved_ranges::list_touched(h, space, l);
     checks::refuse_if(wrong, 22, checks::refuse_if(touches, 98, 0))
 }
 
-// o is the object of the id, b the reserved ranges of all spaces.
-pub fn decide_allow(o: Object, b: Blocks, space: u32, count: u32, zero: u32, area: &[u8]) -> Edit
-    ensures { λ e. ⌜ ((os : List Object) → o ≡ objectAt os space → Gathered os b → e ≡ allowEditAt os space count zero (now (area .entry))) ⌝ }
+// The numbers of the command first, then the list in its area.
+pub fn decide_allow<'a>(
+    h: &'a [u64; 865],
+    space: u32,
+    count: u32,
+    zero: u32,
+    area: &'a [u8],
+) -> Edit
+    ensures { λ e. ⌜ e ≡ allowEditAt (objectsIn (now (h .entry))) space count zero (now (area .entry)) ⌝ }
 {
+    let o = layout_objects::object_of(h, space);
     let k = o.kind;
     let first = number_errno(table::is_space(k), count, zero, area.len());
     if first != 0 {
         return edits::refusal(first);
     }
     let l = area_list(area, count);
-    let errno = list_errno(b, space, l);
+    let errno = list_errno(h, space, l);
     if errno != 0 {
         return edits::refusal(errno);
     }

@@ -1,24 +1,23 @@
 -- IOVA_RANGES: the reply, the checks before it, and the gate before them.
-use Prim.Native.Nat.{ℕ, _*_, _≤_, min}
-use mathlib.Core.Path.{_≡_, refl, sym, ap, _∙_}
+use Prim.Native.Nat.{ℕ, _*_, _≤_}
+use mathlib.Core.Path.{_≡_, refl, sym, _∙_}
 use mathlib.Core.Bool.{Bool, true, false, cond}
 use mathlib.Core.List.{List, [], _∷_}
 use native.Mathlib.Omega.{arith}
 use lib.Dec.{ltb}
 use lib.ListN.{length, take}
-use borrow.Author.Tests.{ltb-false, ne-eqb}
+use borrow.Author.Tests.{ltb-false, not-false, ne-eqb}
 use Rattle.lists.specs.Checks.{when, first, first-each, first-stays, first-goes, Refusals, passed}
 use Rattle.wire.specs.Fields.{field, put}
-use Rattle.blocks.specs.declared.Blocks.{Blocks}
-use Rattle.blocks.specs.Blocked.{blocked, blockedFor-length}
 use Rattle.freeranges.specs.Free.{freeRanges}
 use Rattle.freeranges.specs.Fewest.{free-length}
 use Rattle.freeranges.specs.Written.{putRanges}
 use Rattle.rules_table.specs.declared.Object.{Object}
-use Rattle.rules_table.specs.Spaces.{alignment}
+use Rattle.rules_table.specs.Records.{newSpace, objectAt, spaceAt}
+use Rattle.rules_table.specs.Spaces.{alignment, reservedOf}
 use Rattle.rules_calls.specs.declared.Edit.{Edit}
 use Rattle.rules_calls.specs.Edits.{refuse}
-use Rattle.facts.specs.Gathered.{Gathered}
+use Rattle.reserved_ranges.specs.Gathered.{reservedOf-most}
 use Rattle.rules_calls.specs.Ranges.{freeOf, repliesTo, rangesBytes, rangesArea, rangesChecks, rangesErrno}
 use Rattle.cmd_space_bytes.specs.Replied.{RangesReply, RangesDone}
 use Rattle.edits.specs.Numbers.{rangesChecksAt}
@@ -26,23 +25,18 @@ use Rattle.edits.specs.Numbers.{rangesChecksAt}
 -- ---- the reply
 
 -- there are at most 129 free ranges
-pub full-small : (b : Blocks) (s n : ℕ) → n ≡ length (freeRanges (blocked s b)) → n ≤ 129
-unfolding blocked
-full-small b s n e = omega (arith, free-length (blocked s b), blockedFor-length (min (b .count) 128) s (b .spaces) (b .starts) (b .lasts))
+pub full-small : (os : List Object) (s n : ℕ) → length os ≡ 32 → n ≡ length (freeRanges (reservedOf os s)) → n ≤ 129
+full-small os s n l e = omega (arith, e, l, free-length (reservedOf os s), reservedOf-most os s)
 
-module _ (os : List Object) (b : Blocks) (g : Gathered os b) (s : ℕ) where
-  free-is : freeRanges (blocked s b) ≡ freeOf os s
-  unfolding freeOf
-  free-is = ap freeRanges (g .same s)
-
-  pub replied : (count n a : ℕ) (cmd cmd1 cmd2 area area1 : List ℕ) → n ≡ length (freeRanges (blocked s b)) → area1 ≡ putRanges 0 (take count (freeRanges (blocked s b))) area
-      → a ≡ alignment os s → cmd1 ≡ put 4 cmd 8 n → cmd2 ≡ put 8 cmd1 24 a → RangesReply os s count n cmd cmd2 area area1
-  unfolding rangesBytes rangesArea
-  replied count n a cmd cmd1 cmd2 area area1 en er ea e1 e2 = record {
-    full = en ∙ ap length free-is;
-    bytes = e2 ∙ rw (e1, ea, en, free-is);
-    ranges = er ∙ rw free-is;
-  }
+pub replied : (os : List Object) (s count n a : ℕ) (cmd cmd1 cmd2 area area1 : List ℕ) → n ≡ length (freeRanges (reservedOf os s))
+    → area1 ≡ putRanges 0 (take count (freeRanges (reservedOf os s))) area
+    → a ≡ alignment os s → cmd1 ≡ put 4 cmd 8 n → cmd2 ≡ put 8 cmd1 24 a → RangesReply os s count n cmd cmd2 area area1
+unfolding rangesBytes rangesArea freeOf
+replied os s count n a cmd cmd1 cmd2 area area1 en er ea e1 e2 = record {
+  full = en;
+  bytes = e2 ∙ rw (e1, ea, en);
+  ranges = er;
+}
 
 -- ---- the checks
 
@@ -55,10 +49,26 @@ checks-refuse : (os : List Object) (s count z room : ℕ) → Refusals (rangesCh
 unfolding rangesChecks
 checks-refuse os s count z room = (λ y. omega (arith, y), (λ y. omega (arith, y), (λ y. omega (arith, y), tt)))
 
--- the area has room for count ranges
-pub ranges-room : (os : List Object) (s count z room : ℕ) → 0 ≡ first (rangesChecksAt os s count z room) 0 → 16 * count ≤ room
-unfolding rangesChecks
-ranges-room os s count z room e = ltb-false room (16 * count) (passed (rangesChecksAt os s count z room) 0 (when false 0) (checks-refuse os s count z room) (sym e) 2 (omega arith))
+-- where they pass, the id is that of a space, and the area has room for count ranges
+module _ (os : List Object) (s count z room r : ℕ) (e : r ≡ first (rangesChecksAt os s count z room) 0) (p : r ≡ 0) where
+  pub ranges-known : spaceAt os s ≡ true
+  unfolding rangesChecks
+  ranges-known =
+      not-false (spaceAt os s)
+      (passed (rangesChecksAt os s count z room) 0 (when false 0) (checks-refuse os s count z room) (sym e ∙ p) 1 (omega arith))
+
+  ranges-fit : 16 * count ≤ room
+  unfolding rangesChecks
+  ranges-fit =
+      ltb-false room (16 * count)
+      (passed (rangesChecksAt os s count z room) 0 (when false 0) (checks-refuse os s count z room) (sym e ∙ p) 2 (omega arith))
+
+-- the room is the same whatever the objects are: those of a list made for it
+pub ranges-room : (known : Bool) (count z room r : ℕ)
+    → ((os : List Object) (s : ℕ) → known ≡ spaceAt os s → r ≡ first (rangesChecksAt os s count z room) 0) → r ≡ 0 → 16 * count ≤ room
+unfolding spaceAt objectAt
+ranges-room true count z room r h p = ranges-fit (newSpace ∷ []) 1 count z room r (h (newSpace ∷ []) 1 refl) p
+ranges-room false count z room r h p = ranges-fit [] 0 count z room r (h [] 0 refl) p
 
 module _ (os : List Object) (cmd area : List ℕ) where
   -- no check before the reply gives 90

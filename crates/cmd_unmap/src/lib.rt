@@ -3,17 +3,18 @@ ghost use mathlib.Core.Bool.{true};
 ghost use mathlib.Core.List.{List};
 ghost use mathlib.Core.Path.{_≡_};
 ghost use Prim.Native.Nat.{ℕ};
+ghost use lib.ListN.{length};
 ghost use Rattle.lists.specs.Each.{Each};
 ghost use Rattle.lists.specs.Checks.{first};
 ghost use Rattle.rules_table.specs.declared.Object.{Object};
 ghost use Rattle.rules_table.specs.Records.{spaceAt};
 ghost use Rattle.table.specs.Checked.{recordOk};
+ghost use Rattle.layout_mappings.specs.Words.{recordsOf};
 ghost use Rattle.rules_calls.specs.Unmap.{asksAll, rangeAsked, removalBy};
 ghost use Rattle.edits.specs.Numbers.{unmapNumberChecksAt, unmapEditAt};
 use ranges::Range;
 use rules_calls::Change;
 use rules_calls::Edit;
-use rules_table::Mapping;
 
 fn asks_all(a: u64, n: u64) -> bool
     ensures { λ b. ⌜ b ≡ asksAll a n ⌝ }
@@ -53,16 +54,17 @@ fn removal_errno(all: bool, cut: bool, some: bool) -> u8
     checks::refuse_if(cut, 2, checks::refuse_if(none, 2, 0))
 }
 
-pub fn decide_unmap(known: bool, ms: [Mapping; 128], s: u32, a: u64, n: u64) -> Edit
-    requires { ⌜ ((os : List Object) × Each (λ m. recordOk os m ≡ true) ms) ⌝ }
-    ensures { λ e. ⌜ ((os : List Object) → known ≡ spaceAt os s → e ≡ unmapEditAt os ms s a n) ⌝ }
+// known says whether the id is that of a space.
+pub fn decide_unmap(known: bool, ws: &[[u64; 5]], s: u32, a: u64, n: u64) -> Edit
+    requires { ⌜ (length (now ws) ≡ 128) × ((os : List Object) × Each (λ m. recordOk os m ≡ true) (recordsOf (now ws))) ⌝ }
+    ensures { λ e. ⌜ ((os : List Object) → known ≡ spaceAt os s → e ≡ unmapEditAt os (recordsOf (now (ws .entry))) s a n) ⌝ }
 {
     let wrong = unmap_number_errno(known, a, n);
     if wrong != 0 {
         return edits::refusal(wrong);
     }
     let r = range_asked(a, n);
-    let v = scan::removal_of(ms, s, r);
+    let v = scan::removal_of(ws, s, r);
     let kept = removal_errno(asks_all(a, n), v.cut, v.some);
     if kept != 0 {
         return edits::refusal(kept);

@@ -6,3 +6,4 @@ pub mod Mapped
 pub mod Settled
 pub mod Numbers
 pub mod Replies
+pub mod Gating

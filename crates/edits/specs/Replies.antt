@@ -4,9 +4,10 @@ use mathlib.Core.Path.{_≡_, refl, sym, _∙_}
 use mathlib.Core.Bool.{false}
 use mathlib.Core.List.{List}
 use native.Mathlib.Omega.{arith}
-use borrow.Author.Tests.{ne-eqb}
+use borrow.Author.Tests.{eq-eqb, ne-eqb}
 use Rattle.lists.specs.Tests.{by-test}
 use Rattle.lists.specs.Search.{find}
+use Rattle.wire.specs.Fields.{put}
 use Rattle.rules_table.specs.declared.Table.{Table}
 use Rattle.rules_table.specs.Good.{good}
 use Rattle.rules_calls.specs.declared.Command.{Command}
@@ -24,7 +25,11 @@ use Rattle.rules_calls.specs.Gate.{gateErrno}
 use Rattle.rules_calls.specs.Ranges.{rangesFields, rangesErrno, repliesTo, rangesReplied, rangesFilled}
 use Rattle.rules_calls.specs.Call.{Done, commandDone, rowDone, callDone, callEdit}
 
--- a number that is not written
+-- a number that is written, and one that is not
+pub written : (size off errno value : ℕ) (bytes : List ℕ) → errno ≡ 0 → put size bytes off value ≡ replied size off errno value bytes
+unfolding replied
+written size off errno value bytes h = rw (eq-eqb errno 0 h)
+
 pub unwritten : (size off errno value : ℕ) (bytes : List ℕ) → (errno ≡ 0 → ⊥) → replied size off errno value bytes ≡ bytes
 unfolding replied
 unwritten size off errno value bytes h = rw (ne-eqb errno 0 h)

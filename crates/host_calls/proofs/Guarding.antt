@@ -1,19 +1,16 @@
 -- What each return of the code gives, in the words of the definitions.
 use Prim.Native.Nat.{ℕ, zero, suc, _<_}
-use mathlib.Core.Path.{_≡_, sym, _∙_}
+use mathlib.Core.Path.{_≡_, _∙_}
 use mathlib.Core.Bool.{true, false}
 use native.Mathlib.Omega.{arith}
 use lib.IntN.{ℤ}
 use lib.ListN.{length}
-use Rattle.lists.specs.Tests.{and-left, and-right}
 use Rattle.lists.specs.Checks.{first}
 use Rattle.rangelists.specs.declared.Reserved.{Reserved}
 use Rattle.rules_calls.specs.Results.{result}
 use Rattle.rules_table.specs.declared.Table.{Table}
-use Rattle.rules_table.specs.Charge.{charge, freeRecord}
-use Rattle.rules_table.specs.Good.{backingsAgree, good}
-use Rattle.table.specs.Checked.{objectsOk, recordsOk, good-grouped}
-use Rattle.records.specs.Charging.{chargedOf}
+use Rattle.rules_table.specs.Charge.{freeRecord}
+use Rattle.rules_table.specs.Good.{good}
 use Rattle.rules_calls.specs.declared.Edit.{Edit}
 use Rattle.rules_calls.specs.Edits.{refuse, settle, added}
 use Rattle.edits.specs.Kept.{added-value}
@@ -22,7 +19,6 @@ use Rattle.rules_calls.specs.declared.Act.{Act}
 use Rattle.rules_calls.specs.declared.Order.{Order}
 use Rattle.rules_calls.specs.declared.Reached.{Reached}
 use Rattle.rules_calls.specs.Gate.{tableErrno}
-use Rattle.host_calls.specs.Orders.{sumIn}
 use Rattle.rules_calls.specs.Orders.{bindOrder, reachedBy, actEdit, hostEdit}
 
 module _ (t : Table) (o : Order) (e : Edit) where
@@ -30,16 +26,12 @@ module _ (t : Table) (o : Order) (e : Edit) where
   unfolding hostEdit tableErrno
   host-bad g h = h ∙ rw g
 
-  pub host-good : (k : Act) → good t ≡ true → o .act ≡ k → e ≡ actEdit t o k → e ≡ hostEdit t o
+  pub host-good : good t ≡ true → e ≡ actEdit t o (o .act) → e ≡ hostEdit t o
   unfolding hostEdit tableErrno
-  host-good k g a h = h ∙ rw (g, a)
+  host-good g h = h ∙ rw g
 
--- the pass over the backings tells the charge of a good table
-pub charge-is : (t : Table) → good t ≡ true → sumIn (chargedOf (t .mappings)) ≡ charge (t .mappings)
-unfolding chargedOf
-charge-is t g =
-    let agrees : backingsAgree (t .mappings) ≡ true = and-left (backingsAgree (t .mappings)) _ (and-right (recordsOk (t .objects) (t .mappings)) _ (and-right (objectsOk (t .objects)) _ (sym (good-grouped t) ∙ g))) in
-    rw agrees
+  pub by-act : (k : Act) → o .act ≡ k → e ≡ actEdit t o k → e ≡ actEdit t o (o .act)
+  by-act k a h = h ∙ rw a
 
 -- bind's id is small
 pub bind-value : (t : Table) (bitmap : ℕ) (l : Reserved) (e : Edit) → length (t .objects) ≡ 32 → e ≡ hostEdit t (bindOrder bitmap l) → e .value < 256

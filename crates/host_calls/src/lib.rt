@@ -2,22 +2,22 @@
 // 117, and a refusal gives the table back as it was.
 ghost use mathlib.Core.List.{List};
 ghost use mathlib.Core.Path.{_≡_};
+ghost use Prim.Native.Nat.{ℕ};
 ghost use lib.ListN.{length};
-ghost use Rattle.rules_table.specs.declared.Object.{Object};
-ghost use Rattle.digests.specs.Digest.{DigestOf, Digested};
+ghost use Rattle.rules_table.specs.Layout.{tableOf};
+ghost use Rattle.rules_table.specs.Words.{headIn, objectsIn};
+ghost use Rattle.layout_mappings.specs.Words.{recordsOf};
+ghost use Rattle.check_table.specs.Known.{Known};
 ghost use Rattle.rules_calls.specs.Gate.{tableWith};
 ghost use Rattle.rules_calls.specs.Answers.{outcome, outcomeId};
-ghost use Rattle.host_calls.specs.Orders.{sumIn};
-ghost use Rattle.rules_calls.specs.Orders.{orderFor, bindOrder, attachOrder, detachOrder, reachOrder, chargeOrder, reachedBy, hostEdit};
-use digests::Digest;
+ghost use Rattle.rules_calls.specs.Orders.{orderFor, bindOrder, attachOrder, detachOrder, reachOrder, chargeOrder, reachedBy, actEdit, hostEdit};
+use check_table::Findings;
 use rangelists::Reserved;
-use records::Charged;
 use rules_calls::Act;
 use rules_calls::Answer;
 use rules_calls::Edit;
 use rules_calls::Order;
 use rules_calls::Reached;
-use rules_table::Mapping;
 use rules_table::Table;
 
 // ---- orders
@@ -94,40 +94,52 @@ pub fn charge_order() -> Order
 
 // ---- deciding
 
-// The charge of records that keep their rules.
-fn charge_in(c: Charged) -> u64
-    ensures { λ n. ⌜ n ≡ sumIn c ⌝ }
+// What an order decides over a good table, by what the check has found of it.
+fn decide_act<'a>(
+    h: &'a [u64; 865],
+    ws: &'a [[u64; 5]],
+    pages: &'a [u64],
+    f: Findings,
+    o: Order,
+) -> Edit
+    requires { ⌜ ((marks : List ℕ) × Known (objectsIn (now h)) (recordsOf (now ws)) (now pages) marks f) ⌝ }
+    ensures { λ e. ⌜ e ≡ actEdit (tableWith (headIn (now (h .entry)) .limit) (objectsIn (now (h .entry))) (recordsOf (now (ws .entry)))) o (o .act) ⌝ }
 {
-    match c {
-        Charged::Disagree => 0,
-        Charged::Sum(n) => n,
-    }
-}
-
-// The digest is that of the objects for the order's ids.
-pub fn decide(limit: u64, d: Digest, ms: [Mapping; 128], o: Order) -> Edit
-    requires { ⌜ Digested d ⌝ }
-    ensures { λ e. ⌜ ((os : List Object) → length os ≡ 32 → DigestOf os (o .first) (o .second) d → e ≡ hostEdit (tableWith limit os ms) o) ⌝ }
-{
-    if !tablecheck::is_good(limit, d, ms) {
-        return edits::refusal(117);
-    }
     let act = o.act;
-    let first = d.first;
+    let first = layout_objects::object_of(h, o.first);
     match act {
         Act::Bind => {
-            let free = d.free;
+            let free = f.object;
             let l = o.reserved;
             host_device::decide_bind(free, o.bitmap, l)
         }
         Act::Attach => {
-            let device = d.second;
-            host_device::decide_attach(device, first, d.alignment, ms, o.second, o.first)
+            let device = layout_objects::object_of(h, o.second);
+            let page = check_mappings::page_of(pages, o.first);
+            let a = ranges::higher(page, 1);
+            host_device::decide_attach(device, first, a, ws, o.second, o.first)
         }
         Act::Detach => host_device::decide_detach(first, o.first),
-        Act::Reach(write) => { host_device::reach_of(first, ms, o.address, o.length, write) }
-        Act::Charge => edits::tell(charge_in(records::charged_of(ms))),
+        Act::Reach(write) => { host_device::reach_of(first, ws, o.address, o.length, write) }
+        Act::Charge => {
+            let p = f.mappings;
+            edits::tell(p.charge)
+        }
     }
+}
+
+// 117 for a bad table, else what the order decides. The table is not changed.
+pub fn decide_host<'a>(h: &'a [u64; 865], ws: &'a [[u64; 5]], o: Order) -> Edit
+    requires { ⌜ length (now ws) ≡ 128 ⌝ }
+    ensures { λ e. ⌜ e ≡ hostEdit (tableOf (headIn (now (h .entry))) (recordsOf (now (ws .entry)))) o ⌝ }
+{
+    let mut pages: [u64; 33] = [0; 33];
+    let mut marks: [u8; 129] = [0; 129];
+    let f = check_table::check(h, ws, &mut pages, &mut marks);
+    if !f.good {
+        return edits::refusal(117);
+    }
+    decide_act(h, ws, &pages, f, o)
 }
 
 // ---- by value
@@ -136,9 +148,10 @@ fn decided(t: Table, o: Order) -> Edit
     ensures { λ e. ⌜ e ≡ hostEdit t o ⌝ }
 {
     let os = t.objects;
-    let d = digests::digest_of(os, o.first, o.second);
+    let h = layout_objects::head_of(t.limit, os);
     let ms = t.mappings;
-    decide(t.limit, d, ms, o)
+    let ws = layout_mappings::words_of(ms);
+    decide_host(&h, &ws, o)
 }
 
 // A new device, loose, with its page sizes and reserved ranges. The result is its id.

@@ -20,6 +20,7 @@ ghost use Rattle.rules_table.specs.Fits.{bindChecks};
 ghost use Rattle.rules_calls.specs.Bind.{onlyFirst, trimmed, newDevice, bindEdit};
 ghost use Rattle.rules_calls.specs.Attach.{blockedBy, misfits, attachedObject, looseObject, attachChecks, attachEdit, detachChecks, detachEdit};
 ghost use Rattle.rules_calls.specs.Reach.{around, mayDo, reachChecks, reachOf};
+ghost use Rattle.layout_mappings.specs.Words.{recordsOf};
 ghost use Rattle.host_device.specs.Held.{holdsAll, held, reachIn};
 use rangelists::Allowed;
 use rangelists::Found;
@@ -131,12 +132,12 @@ fn blocked_by(m: Mapping, s: u32, l: Reserved) -> bool
     rangelists::is_found(rangelists::reserved_touched(l, r))
 }
 
-fn touches_mapping(ms: [Mapping; 128], s: u32, l: Reserved) -> bool
-    ensures { λ b. ⌜ b ≡ any (blockedBy s (reserved l)) ms ⌝ }
+fn touches_mapping(ws: &[[u64; 5]], s: u32, l: Reserved) -> bool
+    ensures { λ b. ⌜ b ≡ any (blockedBy s (reserved l)) (recordsOf (now (ws .entry))) ⌝ }
 {
     let mut i: usize = 0;
-    while i < 128 {
-        let m = ms[i];
+    while i < ws.len() {
+        let m = layout_mappings::record(ws, i);
         if blocked_by(m, s, l) {
             return true;
         }
@@ -155,12 +156,12 @@ fn misfit(m: Mapping, s: u32, a: u64) -> bool
     !alignment::is_fit(a, m.address, m.length)
 }
 
-fn some_misfit(ms: [Mapping; 128], s: u32, a: u64) -> bool
-    ensures { λ b. ⌜ b ≡ any (misfits s a) ms ⌝ }
+fn some_misfit(ws: &[[u64; 5]], s: u32, a: u64) -> bool
+    ensures { λ b. ⌜ b ≡ any (misfits s a) (recordsOf (now (ws .entry))) ⌝ }
 {
     let mut i: usize = 0;
-    while i < 128 {
-        let m = ms[i];
+    while i < ws.len() {
+        let m = layout_mappings::record(ws, i);
         if misfit(m, s, a) {
             return true;
         }
@@ -170,8 +171,8 @@ fn some_misfit(ms: [Mapping; 128], s: u32, a: u64) -> bool
 }
 
 // o is the object to attach, h the object of id s, a the alignment of s.
-fn attach_errno(o: Object, h: Object, a: u64, ms: [Mapping; 128], s: u32) -> u8
-    ensures { λ r. ⌜ ((os : List Object) → h ≡ objectAt os s → a ≡ alignment os s → r ≡ first (attachChecks os ms o s) 0) ⌝ }
+fn attach_errno(o: Object, h: Object, a: u64, ws: &[[u64; 5]], s: u32) -> u8
+    ensures { λ r. ⌜ ((os : List Object) → h ≡ objectAt os s → a ≡ alignment os s → r ≡ first (attachChecks os (recordsOf (now (ws .entry))) o s) 0) ⌝ }
 {
     let k = o.kind;
     let l = o.reserved;
@@ -180,12 +181,12 @@ fn attach_errno(o: Object, h: Object, a: u64, ms: [Mapping; 128], s: u32) -> u8
     let device = table::is_device(k);
     let attached = table::is_attached(k);
     let space = table::is_space(home);
-    let mapped = touches_mapping(ms, s, l);
+    let mapped = touches_mapping(ws, s, l);
     let listed = table::lists_touch(l, allow);
     let blocked = checks::either(mapped, listed);
     let page = alignment::smallest_page(o.bitmap);
     let higher = ranges::higher(page, a);
-    let misaligned = some_misfit(ms, s, higher);
+    let misaligned = some_misfit(ws, s, higher);
     checks::refuse_if(
         !device,
         2,
@@ -215,10 +216,10 @@ fn attached_object(o: Object, s: u32) -> Object
 }
 
 // o and h are the objects of ids d and s, a the alignment of s.
-pub fn decide_attach(o: Object, h: Object, a: u64, ms: [Mapping; 128], d: u32, s: u32) -> Edit
-    ensures { λ e. ⌜ ((os : List Object) → o ≡ objectAt os d → h ≡ objectAt os s → a ≡ alignment os s → e ≡ attachEdit os ms d s) ⌝ }
+pub fn decide_attach(o: Object, h: Object, a: u64, ws: &[[u64; 5]], d: u32, s: u32) -> Edit
+    ensures { λ e. ⌜ ((os : List Object) → o ≡ objectAt os d → h ≡ objectAt os s → a ≡ alignment os s → e ≡ attachEdit os (recordsOf (now (ws .entry))) d s) ⌝ }
 {
-    let errno = attach_errno(o, h, a, ms, s);
+    let errno = attach_errno(o, h, a, ws, s);
     if errno != 0 {
         return edits::refusal(errno);
     }
@@ -273,12 +274,12 @@ fn holds(m: Mapping, s: u32, r: Range) -> bool
     ranges::is_inside(r, q)
 }
 
-fn find_around(ms: [Mapping; 128], s: u32, r: Range) -> Around
-    ensures { λ f. ⌜ f ≡ held (around ms s r) ⌝ }
+fn find_around(ws: &[[u64; 5]], s: u32, r: Range) -> Around
+    ensures { λ f. ⌜ f ≡ held (around (recordsOf (now (ws .entry))) s r) ⌝ }
 {
     let mut i: usize = 0;
-    while i < 128 {
-        let m = ms[i];
+    while i < ws.len() {
+        let m = layout_mappings::record(ws, i);
         if holds(m, s, r) {
             return Around::In(m);
         }
@@ -326,9 +327,9 @@ fn reach_errno(k: Kind, a: u64, n: u64) -> u8
 }
 
 // The records are those of a good table: so the address in memory is below 2^64.
-pub fn reach_of(o: Object, ms: [Mapping; 128], a: u64, n: u64, write: bool) -> Edit
-    requires { ⌜ ((os : List Object) × Each (λ m. recordOk os m ≡ true) ms) ⌝ }
-    ensures { λ r. ⌜ ((os : List Object) (d : ℕ) → o ≡ objectAt os d → r ≡ reachOf os ms d a n write) ⌝ }
+pub fn reach_of(o: Object, ws: &[[u64; 5]], a: u64, n: u64, write: bool) -> Edit
+    requires { ⌜ ((os : List Object) × Each (λ m. recordOk os m ≡ true) (recordsOf (now ws))) ⌝ }
+    ensures { λ r. ⌜ ((os : List Object) (d : ℕ) → o ≡ objectAt os d → r ≡ reachOf os (recordsOf (now (ws .entry))) d a n write) ⌝ }
 {
     let k = o.kind;
     let errno = reach_errno(k, a, n);
@@ -337,7 +338,7 @@ pub fn reach_of(o: Object, ms: [Mapping; 128], a: u64, n: u64, write: bool) -> E
     }
     let s = table::home_of(k);
     let r = ranges::span_of(a, n);
-    let f = find_around(ms, s, r);
+    let f = find_around(ws, s, r);
     let Around::In(m) = f else {
         return edits::refusal(14);
     };

@@ -1,24 +1,27 @@
 // The interface of the whole. Six operations on a table; nobody else writes it, and one call runs at a time. Each answers for any table, any bytes and any numbers, and ends.
 // What each gives back is one equation with a definition of the rules; README.md names the theorems that say what the definitions mean.
-ghost use mathlib.Core.List.{List};
 ghost use mathlib.Core.Path.{_≡_};
+ghost use Prim.Native.Nat.{_≤_};
 ghost use lib.ListN.{length};
-ghost use Rattle.rules_table.specs.declared.Object.{Object};
+ghost use Rattle.rules_table.specs.Layout.{tableOf};
+ghost use Rattle.rules_table.specs.Words.{headIn, objectsIn};
+ghost use Rattle.rules_calls.specs.Requests.{requestOf};
+ghost use Rattle.rules_calls.specs.Objects.{destroyEdit};
+ghost use Rattle.layout_mappings.specs.Words.{recordsOf};
+ghost use Rattle.check_table.specs.Known.{Known};
 ghost use Rattle.rules_table.specs.Good.{good};
 ghost use Rattle.rules_calls.specs.Answers.{outcome, outcomeId, freshAnswer};
-ghost use Rattle.digests.specs.Digest.{DigestOf, Digested};
 ghost use Rattle.rules_calls.specs.Gate.{tableWith};
 ghost use Rattle.rules_calls.specs.Orders.{bindOrder, attachOrder, detachOrder, reachOrder, reachedBy, hostEdit};
 ghost use Rattle.rules_calls.specs.Call.{callDone};
-ghost use Rattle.iommufd.specs.Deciding.{firstId, secondId, commandIn, Decided};
-use digests::Digest;
+ghost use Rattle.iommufd.specs.Deciding.{commandIn, Left, Decided};
+use check_table::Findings;
 use rangelists::Reserved;
 use rules_calls::Answer;
 use rules_calls::Command;
 use rules_calls::Edit;
 use rules_calls::Opening;
 use rules_calls::Reached;
-use rules_table::Mapping;
 use rules_table::Table;
 
 // An empty table with a charge limit in pages. Above 2^36 the result is -22, and every call on the table beside it answers -117.
@@ -33,37 +36,16 @@ pub fn is_good(t: Table) -> bool
     ensures { λ b. ⌜ b ≡ good t ⌝ }
 {
     let os = t.objects;
-    let d = digests::digest_of(os, 0, 0);
+    let h = layout_objects::head_of(t.limit, os);
     let ms = t.mappings;
-    tablecheck::is_good(t.limit, d, ms)
+    let ws = layout_mappings::words_of(ms);
+    let mut pages: [u64; 33] = [0; 33];
+    let mut marks: [u8; 129] = [0; 129];
+    let f = check_table::check(&h, &ws, &mut pages, &mut marks);
+    f.good
 }
 
 // ---- the commands
-
-// The two ids that a command names, as far as its bytes are lent: the digest of the objects is made for them.
-pub fn first_id(request: u32, cmd: &[u8]) -> u32
-    ensures { λ n. ⌜ n ≡ firstId request (now (cmd .entry)) ⌝ }
-{
-    if cmd.len() < 8 {
-        return 0;
-    }
-    if cmd.len() < 12 {
-        return wire::read32(cmd, 4);
-    }
-    if checks::either(request == 0x3B83, request == 0x3B85) {
-        return wire::read32(cmd, 8);
-    }
-    wire::read32(cmd, 4)
-}
-
-pub fn second_id(cmd: &[u8]) -> u32
-    ensures { λ n. ⌜ n ≡ secondId (now (cmd .entry)) ⌝ }
-{
-    if cmd.len() < 16 {
-        return 0;
-    }
-    wire::read32(cmd, 12)
-}
 
 // The command that is open.
 fn command_in(o: Opening) -> Command
@@ -79,19 +61,71 @@ fn command_in(o: Opening) -> Command
     }
 }
 
+fn destroy(h: &[u64; 865], id: u32) -> Edit
+    ensures { λ e. ⌜ e ≡ destroyEdit (objectsIn (now (h .entry))) id ⌝ }
+{
+    let o = layout_objects::object_of(h, id);
+    let held = check_objects::is_held(h, id);
+    cmd_space::decide_destroy(o, held, id)
+}
+
+// What a command that is open decides over a good table, by what the check has found of it. The reply is written.
+fn answer<'a>(
+    h: &'a [u64; 865],
+    ws: &'a [[u64; 5]],
+    pages: &'a [u64],
+    marks: &'a [u8],
+    f: Findings,
+    c: Command,
+    cmd: &mut [u8],
+    area: &mut [u8],
+) -> Edit
+    requires { ⌜ (requestOf c .size ≤ length (now cmd)) × Known (objectsIn (now h)) (recordsOf (now ws)) (now pages) (now marks) f ⌝ }
+    ensures { λ e. ⌜ Left c (tableWith (headIn (now (h .entry)) .limit) (objectsIn (now (h .entry))) (recordsOf (now (ws .entry)))) (now (cmd .entry)) (now (area .entry)) e (now (cmd .exit)) (now (area .exit)) ⌝ }
+{
+    let p = f.mappings;
+    match c {
+        Command::Destroy => destroy(h, wire::read32(cmd, 4)),
+        Command::IoasAlloc => {
+            let free = f.object;
+            cmd_space_bytes::alloc(free, cmd)
+        }
+        Command::AllowIovas => cmd_space_bytes::allow(h, cmd, area),
+        Command::Copy => {
+            let a = check_mappings::page_of(pages, wire::read32(cmd, 8));
+            let b = check_mappings::page_of(pages, wire::read32(cmd, 12));
+            cmd_map_bytes::copy(h, ws, p, a, b, cmd)
+        }
+        Command::IovaRanges => {
+            let a = check_mappings::page_of(pages, wire::read32(cmd, 4));
+            cmd_space_bytes::ranges(h, a, cmd, area)
+        }
+        Command::Map => {
+            let a = check_mappings::page_of(pages, wire::read32(cmd, 8));
+            cmd_map_bytes::map(h, ws, p, marks, a, cmd)
+        }
+        Command::Unmap => {
+            let a = check_mappings::page_of(pages, wire::read32(cmd, 4));
+            cmd_map_bytes::unmap(a != 0, ws, cmd)
+        }
+    }
+}
+
 // What a command decides: 117, then its opening, then its own checks. The reply is written into its bytes and the range area; the table is not changed.
-pub fn decide(
-    limit: u64,
-    d: Digest,
-    ms: [Mapping; 128],
+pub fn decide<'a>(
+    h: &'a [u64; 865],
+    ws: &'a [[u64; 5]],
     request: u32,
     cmd: &mut [u8],
     area: &mut [u8],
 ) -> Edit
-    requires { ⌜ Digested d ⌝ }
-    ensures { λ e. ⌜ ((os : List Object) → length os ≡ 32 → DigestOf os (firstId request (now (cmd .entry))) (secondId (now (cmd .entry))) d → Decided (tableWith limit os ms) request (now (cmd .entry)) (now (area .entry)) e (now (cmd .exit)) (now (area .exit))) ⌝ }
+    requires { ⌜ length (now ws) ≡ 128 ⌝ }
+    ensures { λ e. ⌜ Decided (tableOf (headIn (now (h .entry))) (recordsOf (now (ws .entry)))) request (now (cmd .entry)) (now (area .entry)) e (now (cmd .exit)) (now (area .exit)) ⌝ }
 {
-    if !tablecheck::is_good(limit, d, ms) {
+    let mut pages: [u64; 33] = [0; 33];
+    let mut marks: [u8; 129] = [0; 129];
+    let f = check_table::check(h, ws, &mut pages, &mut marks);
+    if !f.good {
         return edits::refusal(117);
     }
     let opening = opening::open(request, cmd);
@@ -99,26 +133,8 @@ pub fn decide(
     if errno != 0 {
         return edits::refusal(errno);
     }
-    let first = d.first;
     let c = command_in(opening);
-    match c {
-        Command::Destroy => cmd_space::decide_destroy(first, d.held, wire::read32(cmd, 4)),
-        Command::IoasAlloc => {
-            let free = d.free;
-            cmd_space_bytes::alloc(free, cmd)
-        }
-        Command::AllowIovas => {
-            let blocks = d.blocks;
-            cmd_space_bytes::allow(first, blocks, cmd, area)
-        }
-        Command::Copy => cmd_map_bytes::copy(d, ms, cmd),
-        Command::IovaRanges => cmd_space_bytes::ranges(d, cmd, area),
-        Command::Map => cmd_map_bytes::map(limit, d, ms, cmd),
-        Command::Unmap => {
-            let k = first.kind;
-            cmd_map_bytes::unmap(table::is_space(k), ms, cmd)
-        }
-    }
+    answer(h, ws, &pages, &marks, f, c, cmd, area)
 }
 
 // A driver's command: its request number, its bytes and the range area, which are changed in place. The result is 0 or the negative of an errno. A refusal changes
@@ -127,9 +143,10 @@ pub fn call(t: Table, request: u32, cmd: &mut [u8], area: &mut [u8]) -> Answer
     ensures { λ a. ⌜ (a ≡ callDone t request (now (cmd .entry)) (now (area .entry)) .answer) × (now (cmd .exit) ≡ callDone t request (now (cmd .entry)) (now (area .entry)) .bytes) × (now (area .exit) ≡ callDone t request (now (cmd .entry)) (now (area .entry)) .area) ⌝ }
 {
     let os = t.objects;
-    let d = digests::digest_of(os, first_id(request, cmd), second_id(cmd));
+    let h = layout_objects::head_of(t.limit, os);
     let ms = t.mappings;
-    let e = decide(t.limit, d, ms, request, cmd, area);
+    let ws = layout_mappings::words_of(ms);
+    let e = decide(&h, &ws, request, cmd, area);
     edits::settled(t, e)
 }
 

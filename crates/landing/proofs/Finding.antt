@@ -14,8 +14,7 @@ use Rattle.alignment.specs.Multiples.{multiple, fits, spotOf}
 use Rattle.rangelists.specs.declared.Allowed.{Allowed}
 use Rattle.rangelists.specs.Listed.{allowed}
 use Rattle.rules_table.specs.Flags.{bit}
-use Rattle.placement.specs.declared.Blocked.{Blocked}
-use Rattle.placement.specs.Candidates.{blockedList, placeOf}
+use Rattle.placement.specs.Candidates.{placeOf}
 use Rattle.rules_table.specs.declared.Object.{Object}
 use Rattle.rules_table.specs.declared.Mapping.{Mapping}
 use Rattle.rules_table.specs.Records.{objectAt}
@@ -28,7 +27,8 @@ use Rattle.rules_calls.specs.Landing.{blockedIn, automatic, taken, fixedChecks,
 use Rattle.landing.specs.Placing.{placingOf, AutomaticPlaced, Placed}
 
 -- the checks of a fixed address
-pub fixed-is : (os : List Object) (s n x a r1 r2 r3 : ℕ) (mapped fit touched : Bool) → a ≡ alignment os s → fit ≡ fits a x n → touched ≡ any (share (span x n)) (reservedOf os s)
+pub fixed-is : (os : List Object) (s n x a r1 r2 r3 : ℕ) (mapped fit touched : Bool) → a ≡ alignment os s → fit ≡ fits a x n
+    → touched ≡ any (share (span x n)) (reservedOf os s)
     → r1 ≡ first (when mapped 17 ∷ []) 0 → r2 ≡ first (when touched 22 ∷ []) r1 → r3 ≡ first (when (not fit) 22 ∷ []) r2
     → r3 ≡ first (fixedChecks os s n x mapped) 0
 unfolding fixedChecks
@@ -49,32 +49,36 @@ module _ (os : List Object) (ms : List Mapping) (s n : ℕ) where
   pub automatic-misfit : (a : ℕ) (b : Bool) → a ≡ alignment os s → b ≡ multiple a n → b ≡ false → AutomaticPlaced os ms s n (record { errno = 22; address = 0 })
   unfolding automaticChecks
   automatic-misfit a b ea eb e = record {
-    errno = sym (first-fires (when (not (multiple (alignment os s) n)) 22) (when (isNone (automatic os ms s n)) 28 ∷ []) 0 (ap (λ (c : Bool). not c) (ap (λ (y : ℕ). multiple y n) (sym ea) ∙ sym eb ∙ e)));
+    errno =
+        sym (first-fires (when (not (multiple (alignment os s) n)) 22) (when (isNone (automatic os ms s n)) 28 ∷ []) 0 (ap (λ (c : Bool). not c) (ap (λ (y : ℕ). multiple y n) (sym ea) ∙ sym eb ∙ e)));
     address = λ z. absurd (omega (arith, z));
   }
 
   spot-placed : multiple (alignment os s) n ≡ true → (o : Option ℕ) → automatic os ms s n ≡ o → AutomaticPlaced os ms s n (placingOf (spotOf o))
   unfolding automaticChecks
   spot-placed m none e = record {
-    errno = sym (first-passes (when (not (multiple (alignment os s) n)) 22) (when (isNone (automatic os ms s n)) 28 ∷ []) 0 (ap (λ (c : Bool). not c) m) ∙ first-fires (when (isNone (automatic os ms s n)) 28) [] 0 (ap isNone e));
+    errno =
+        sym (first-passes (when (not (multiple (alignment os s) n)) 22) (when (isNone (automatic os ms s n)) 28 ∷ []) 0 (ap (λ (c : Bool). not c) m) ∙ first-fires (when (isNone (automatic os ms s n)) 28) [] 0 (ap isNone e));
     address = λ z. absurd (omega (arith, z));
   }
   spot-placed m (some x) e = record {
-    errno = sym (first-passes (when (not (multiple (alignment os s) n)) 22) (when (isNone (automatic os ms s n)) 28 ∷ []) 0 (ap (λ (c : Bool). not c) m) ∙ first-passes (when (isNone (automatic os ms s n)) 28) [] 0 (ap isNone e) ∙ first-nil 0);
+    errno =
+        sym (first-passes (when (not (multiple (alignment os s) n)) 22) (when (isNone (automatic os ms s n)) 28 ∷ []) 0 (ap (λ (c : Bool). not c) m) ∙ first-passes (when (isNone (automatic os ms s n)) 28) [] 0 (ap isNone e) ∙ first-nil 0);
     address = λ z. sym (ap numberIn e);
   }
 
   -- the lowest candidate
-  pub automatic-found : (a : ℕ) (b : Bool) (bl : Blocked) (l : Allowed) (spot : Spot) (p : Placing) → a ≡ alignment os s → b ≡ multiple a n → b ≡ true
-      → blockedList bl ≡ blockedIn os ms s → l ≡ objectAt os s .allow → spot ≡ spotOf (placeOf a n 0 (blockedList bl) (allowed l)) → p ≡ placingOf spot → AutomaticPlaced os ms s n p
+  pub automatic-found : (a : ℕ) (b : Bool) (l : Allowed) (spot : Spot) (p : Placing) → a ≡ alignment os s → b ≡ multiple a n → b ≡ true
+      → l ≡ objectAt os s .allow → spot ≡ spotOf (placeOf a n 0 (blockedIn os ms s) (allowed l)) → p ≡ placingOf spot → AutomaticPlaced os ms s n p
   unfolding automatic
-  automatic-found a b bl l spot p ea eb e el eo es ep =
-      let same : automatic os ms s n ≡ placeOf a n 0 (blockedList bl) (allowed l) = rw (ea, el, eo) refl in
-      rw (ep, es) (spot-placed (ap (λ (y : ℕ). multiple y n) (sym ea) ∙ sym eb ∙ e) (placeOf a n 0 (blockedList bl) (allowed l)) same)
+  automatic-found a b l spot p ea eb e eo es ep =
+      let same : automatic os ms s n ≡ placeOf a n 0 (blockedIn os ms s) (allowed l) = rw (ea, eo) refl in
+      rw (ep, es) (spot-placed (ap (λ (y : ℕ). multiple y n) (sym ea) ∙ sym eb ∙ e) (placeOf a n 0 (blockedIn os ms s) (allowed l)) same)
 
 -- the place of a target
 module _ (os : List Object) (ms : List Mapping) (t : Target) where
-  pub fixed-placed : (f mapped : Bool) (r : ℕ) → f ≡ bit 0 (t .flags) → f ≡ true → mapped ≡ taken ms (t .space) (t .length) (t .address) → r ≡ first (fixedChecks os (t .space) (t .length) (t .address) mapped) 0
+  pub fixed-placed : (f mapped : Bool) (r : ℕ) → f ≡ bit 0 (t .flags) → f ≡ true → mapped ≡ taken ms (t .space) (t .length) (t .address)
+      → r ≡ first (fixedChecks os (t .space) (t .length) (t .address) mapped) 0
       → Placed os ms t (record { errno = r; address = t .address })
   unfolding placeChecks placeAt
   fixed-placed f mapped r ef e em er = record {

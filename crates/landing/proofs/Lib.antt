@@ -1,1 +1,4 @@
 pub mod Finding
+pub mod Passing
+pub mod Searching
+pub mod Joining

@@ -40,7 +40,7 @@ use Rattle.rules_calls.specs.Objects.{allocChecks, allocEdit, destroyChecks, re
 use Rattle.rules_calls.specs.Named.{allocCall, allocAnswer, allocBytes, destroyAnswer}
 use Rattle.laws_good.specs.SpaceKept.{is-object, object-slot}
 use Rattle.rules_calls.specs.Gate.{gateErrno}
-use Rattle.tablecheck.proofs.Gating.{gate-size}
+use Rattle.edits.specs.Gating.{gate-size}
 use Rattle.laws_mapping.specs.Passed.{settled-zero}
 use Rattle.laws_mapping.specs.Accepted.{Accepted, accepted}
 use Rattle.rules_history.specs.Ledger.{Ledger, withSpace, entryOf, withoutSpace}

@@ -1,10 +1,11 @@
 -- A refusal in the caller's memory: one other than -90 leaves head, records, command and range area, number for number, and so does a bad table, which is 117.
-use Prim.Native.Nat.{ℕ, _%_}
+use Prim.Native.Nat.{ℕ}
 use mathlib.Core.Path.{_≡_, sym, ap, _∙_}
 use mathlib.Core.Bool.{false}
 use mathlib.Core.List.{List}
 use native.Mathlib.Omega.{arith}
 use lib.IntN.{ℤ, negsuc}
+use borrow.Author.Tests.{ne-eqb}
 use Rattle.rules_calls.specs.Results.{result}
 use Rattle.rules_table.specs.declared.Mapping.{Mapping}
 use Rattle.rules_table.specs.Good.{good}
@@ -13,16 +14,15 @@ use Rattle.rules_calls.specs.declared.Edit.{Edit}
 use Rattle.rules_calls.specs.Answers.{outcome}
 use Rattle.rules_calls.specs.Gate.{tableErrno}
 use Rattle.rules_calls.specs.Call.{callDone, callEdit}
-use Rattle.laws_refusal.specs.Edits.{errno-of, negative-id}
+use Rattle.laws_refusal.specs.Edits.{errno-of}
 use Rattle.rules_table.specs.declared.Head.{Head}
 use Rattle.rules_table.specs.Layout.{tableOf}
 use Rattle.rules_lent.specs.Lent.{headAfter, recordsAfter}
-use Rattle.rules_lent.specs.Entries.{LentCall, LentHost, LentTold}
+use Rattle.rules_lent.specs.Entries.{LentCall, LentHost}
 use Rattle.edits.specs.Replies.{call-edit}
 use Rattle.rules_calls.specs.declared.Answer.{Answer}
 use Rattle.rules_calls.specs.declared.Order.{Order}
 use Rattle.rules_calls.specs.Orders.{hostEdit}
-use Rattle.rules_lent.specs.declared.Number.{Number}
 use Rattle.laws_refusal.specs.Silent.{silent-call, silent-host}
 use Rattle.laws_refusal.specs.EveryCall.{call-refused}
 use Rattle.laws_refusal.specs.BadTable.{bad-call}
@@ -33,7 +33,8 @@ kept h ms e n = (rw n, rw n)
 
 -- ---- commands
 
-module _ (h : Head) (ms : List Mapping) (request : ℕ) (cmd area : List ℕ) (r : ℤ) (h′ : Head) (ms′ : List Mapping) (cmd′ area′ : List ℕ) (l : LentCall h ms request cmd area r h′ ms′ cmd′ area′) where
+module _ (h : Head) (ms : List Mapping) (request : ℕ) (cmd area : List ℕ) (r : ℤ) (h′ : Head) (ms′ : List Mapping) (cmd′ area′ : List ℕ)
+    (l : LentCall h ms request cmd area r h′ ms′ cmd′ area′) where
   -- the entry's result is the door's
   door : callDone (tableOf h ms) request cmd area .answer .result ≡ r
   unfolding outcome
@@ -67,20 +68,20 @@ module _ (h : Head) (ms : List Mapping) (request : ℕ) (cmd area : List ℕ) (r
 
 -- ---- host calls
 
--- THE LAWS
-pub lent-host-refused : (h : Head) (ms : List Mapping) (o : Order) (r : ℤ) (h′ : Head) (ms′ : List Mapping) → LentHost h ms o r h′ ms′ → (k : ℕ) → r ≡ negsuc k → (h′ ≡ h) × (ms′ ≡ ms)
-lent-host-refused h ms o r h′ ms′ l k e =
-    let d = hostEdit (tableOf h ms) o in
-    let q = kept h ms d (silent-host (tableOf h ms) o (negative-id (d .errno) (d .value % 256) k (sym (l .result) ∙ e))) in
-    (l .head ∙ q .0, l .records ∙ q .1)
+module _ (h : Head) (ms : List Mapping) (o : Order) (words : List ℕ) (r : ℤ) (h′ : Head) (ms′ : List Mapping) (words′ : List ℕ)
+    (l : LentHost h ms o words r h′ ms′ words′) where
+  -- THE LAWS: a refusal leaves the words too
+  pub lent-host-refused : (k : ℕ) → r ≡ negsuc k → (h′ ≡ h) × (ms′ ≡ ms) × (words′ ≡ words)
+  unfolding outcome
+  lent-host-refused k e =
+      let d = hostEdit (tableOf h ms) o in
+      let n = errno-of (tableOf h ms) d k (sym (l .result) ∙ e) in
+      let q = kept h ms d (silent-host (tableOf h ms) o n) in
+      (l .head ∙ q .0, l .records ∙ q .1, l .told ∙ rw (ne-eqb (d .errno) 0 n))
 
-pub lent-host-bad : (h : Head) (ms : List Mapping) (o : Order) (r : ℤ) (h′ : Head) (ms′ : List Mapping) → LentHost h ms o r h′ ms′ → good (tableOf h ms) ≡ false → (r ≡ negsuc 116) × (h′ ≡ h) × (ms′ ≡ ms)
-unfolding hostEdit tableErrno result
-lent-host-bad h ms o r h′ ms′ l g =
-    let e : r ≡ negsuc 116 = l .result ∙ rw g in
-    let q = lent-host-refused h ms o r h′ ms′ l 116 e in
-    (e, q .0, q .1)
-
-pub lent-told-bad : (h : Head) (ms : List Mapping) (o : Order) (n : Number) (h′ : Head) (ms′ : List Mapping) → LentTold h ms o n h′ ms′ → good (tableOf h ms) ≡ false → n ≡ record { result = negsuc 116; value = 0 }
-unfolding hostEdit tableErrno result
-lent-told-bad h ms o n h′ ms′ l g = l .number ∙ rw g
+  pub lent-host-bad : good (tableOf h ms) ≡ false → (r ≡ negsuc 116) × (h′ ≡ h) × (ms′ ≡ ms) × (words′ ≡ words)
+  unfolding hostEdit tableErrno result
+  lent-host-bad g =
+      let e : r ≡ negsuc 116 = l .result ∙ rw g in
+      let q = lent-host-refused 116 e in
+      (e, q .0, q .1, q .2)

@@ -16,7 +16,7 @@ use Rattle.rules_calls.specs.declared.Edit.{Edit}
 use Rattle.rules_calls.specs.Edits.{settle}
 use Rattle.rules_calls.specs.Answers.{outcome, replied}
 use Rattle.rules_calls.specs.Gate.{gateErrno}
-use Rattle.tablecheck.proofs.Gating.{gate-size}
+use Rattle.edits.specs.Gating.{gate-size}
 
 -- past the gate the table is good
 pub gate-table : (t : Table) (request : ℕ) (bytes : List ℕ) → gateErrno t request bytes ≡ 0 → good t ≡ true

@@ -1,49 +1,73 @@
--- The same laws for the archive's entry `iommufd_reach`, whose contract is `LentTold`: the table is the one that the caller's head and mapping records stand for.
-use Prim.Native.Nat.{ℕ}
+-- The same laws for the archive's host entry, whose contract for reach is `LentHost`: the table is the one that the caller's head and mapping
+-- records stand for. Where the result is 0 the address stands in word 0, and a refusal leaves the words.
+use Prim.Native.Nat.{ℕ, _≤_}
 use mathlib.Core.Path.{_≡_, sym, ap, _∙_}
 use mathlib.Core.Bool.{true}
 use mathlib.Core.List.{List}
+use native.Mathlib.Omega.{arith}
 use lib.IntN.{ℤ, pos, negsuc}
+use lib.ListN.{length, getD}
+use lib.Seq.{getD-set-same}
+use borrow.Author.Tests.{eq-eqb, ne-eqb}
+use Rattle.opening.specs.Signed.{result-none, result-errno}
 use Rattle.rules_table.specs.declared.Mapping.{Mapping}
 use Rattle.rules_table.specs.Good.{good}
+use Rattle.rules_calls.specs.declared.Edit.{Edit}
 use Rattle.rules_calls.specs.declared.Reached.{Reached}
 use Rattle.rules_calls.specs.Named.{reachCall}
-use Rattle.rules_calls.specs.Orders.{reachOrder}
+use Rattle.rules_calls.specs.Orders.{reachOrder, hostEdit}
 use Rattle.rules_table.specs.declared.Head.{Head}
 use Rattle.rules_table.specs.Layout.{tableOf}
-use Rattle.rules_lent.specs.declared.Number.{Number}
-use Rattle.rules_lent.specs.Entries.{LentTold, isWrite}
+use Rattle.rules_lent.specs.Entries.{LentHost, isWrite}
 use Rattle.laws_reach.specs.Plain.{Reaches, Denied, Nowhere}
 use Rattle.laws_reach.specs.Reach.{answers, reach-0, reach-1, reach-14}
 
--- an answer of the entry
-abbrev pub tells : ℤ → ℕ → Number
-tells z y = record { result = z; value = y }
+module _ (h : Head) (ms : List Mapping) (g : good (tableOf h ms) ≡ true) (d a n w : ℕ) (words : List ℕ) (r : ℤ) (h′ : Head) (ms′ : List Mapping)
+    (words′ : List ℕ)
+    (c : LentHost h ms (reachOrder d a n (isWrite w)) words r h′ ms′ words′) (room : 10 ≤ length words) where
+  abbrev e : Edit
+  e = hostEdit (tableOf h ms) (reachOrder d a n (isWrite w))
 
-module _ (h : Head) (ms : List Mapping) (g : good (tableOf h ms) ≡ true) (d a n w : ℕ) (x : Number) (h′ : Head) (ms′ : List Mapping) (c : LentTold h ms (reachOrder d a n (isWrite w)) x h′ ms′) where
-  -- the entry tells what reach answers
-  same : answers (x .result) (x .value) ≡ reachCall (tableOf h ms) d a n (isWrite w)
+  abbrev reach : Reached
+  reach = reachCall (tableOf h ms) d a n (isWrite w)
+
+  -- the entry's result is reach's, and beside 0 stands its address
+  result-is : r ≡ reach .result
   unfolding reachCall
-  same = ap (λ (k : Number). answers (k .result) (k .value)) (c .number)
+  result-is = c .result
 
-  told : (z : ℤ) (y : ℕ) → reachCall (tableOf h ms) d a n (isWrite w) ≡ answers z y → x ≡ tells z y
-  told z y e = ap (λ (r : Reached). tells (r .result) (r .address)) (same ∙ e)
+  address-is : r ≡ pos 0 → getD words′ 0 0 ≡ reach .address
+  unfolding reachCall
+  address-is z =
+      let k : e .errno ≡ 0 = result-none (e .errno) (sym (c .result) ∙ z) in
+      ap (λ (l : List ℕ). getD l 0 0) (c .told) ∙ rw (eq-eqb (e .errno) 0 k) (getD-set-same words 0 (e .value) 0 (omega (arith, room)))
 
-  result-is : (z : ℤ) → x .result ≡ z → reachCall (tableOf h ms) d a n (isWrite w) .result ≡ z
-  result-is z e = ap (λ (r : Reached). r .result) (sym same) ∙ e
+  words-stay : (k : ℕ) → r ≡ negsuc k → words′ ≡ words
+  words-stay k z =
+      let m = result-errno (e .errno) k (sym (c .result) ∙ z) in
+      c .told ∙ rw (ne-eqb (e .errno) 0 (λ x. omega (arith, x, m)))
+
+  refused : (k : ℕ) → reach ≡ answers (negsuc k) 0 → (r ≡ negsuc k) × (words′ ≡ words)
+  refused k z = let q : r ≡ negsuc k = result-is ∙ ap (λ (x : Reached). x .result) z in (q, words-stay k q)
 
   -- THE LAWS
-  pub lent-reach-0 : (y : ℕ) → (x ≡ tells (pos 0) y → Reaches (tableOf h ms) d a n (isWrite w) y) × (Reaches (tableOf h ms) d a n (isWrite w) y → x ≡ tells (pos 0) y)
+  pub lent-reach-0 : (y : ℕ) → ((r ≡ pos 0) × (getD words′ 0 0 ≡ y) → Reaches (tableOf h ms) d a n (isWrite w) y) × (Reaches (tableOf h ms) d a n (isWrite w) y
+      → (r ≡ pos 0) × (getD words′ 0 0 ≡ y))
   lent-reach-0 y =
-      let l = reach-0 (tableOf h ms) g d a n (isWrite w) y in
-      (λ e. l .0 (sym same ∙ ap (λ (k : Number). answers (k .result) (k .value)) e), λ r. told (pos 0) y (l .1 r))
+      let l = reach-0 (tableOf h ms) g d a n (isWrite w) y in (
+        λ z. l .0 (ap (λ (x : ℤ). answers x (reach .address)) (sym result-is ∙ z .0) ∙ ap (answers (pos 0)) (sym (address-is (z .0)) ∙ z .1)),
+        λ x.
+            let z = l .1 x in
+            let q : r ≡ pos 0 = result-is ∙ ap (λ (k : Reached). k .result) z in
+            (q, address-is q ∙ ap (λ (k : Reached). k .address) z),
+      )
 
-  pub lent-reach-1 : (x .result ≡ negsuc 0 → Denied (tableOf h ms) d a n (isWrite w)) × (Denied (tableOf h ms) d a n (isWrite w) → x ≡ tells (negsuc 0) 0)
+  pub lent-reach-1 : (r ≡ negsuc 0 → Denied (tableOf h ms) d a n (isWrite w)) × (Denied (tableOf h ms) d a n (isWrite w) → (r ≡ negsuc 0) × (words′ ≡ words))
   lent-reach-1 =
       let l = reach-1 (tableOf h ms) g d a n (isWrite w) in
-      (λ e. l .0 (result-is (negsuc 0) e), λ r. told (negsuc 0) 0 (l .1 r))
+      (λ z. l .0 (sym result-is ∙ z), λ x. refused 0 (l .1 x))
 
-  pub lent-reach-14 : (x .result ≡ negsuc 13 → Nowhere (tableOf h ms) d a n) × (Nowhere (tableOf h ms) d a n → x ≡ tells (negsuc 13) 0)
+  pub lent-reach-14 : (r ≡ negsuc 13 → Nowhere (tableOf h ms) d a n) × (Nowhere (tableOf h ms) d a n → (r ≡ negsuc 13) × (words′ ≡ words))
   lent-reach-14 =
       let l = reach-14 (tableOf h ms) g d a n (isWrite w) in
-      (λ e. l .0 (result-is (negsuc 13) e), λ r. told (negsuc 13) 0 (l .1 r))
+      (λ z. l .0 (sym result-is ∙ z), λ x. refused 13 (l .1 x))

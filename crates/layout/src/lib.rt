@@ -1,30 +1,15 @@
 // The head of a table as a kernel keeps it: the limit and the object records, as numbers only. Every field is a u32 or a u64, so that whatever C left there is read as it is;
 // a kind that is none becomes a device attached to no space, which no good table has.
-ghost use mathlib.Core.List.{map};
 ghost use mathlib.Core.Path.{_≡_};
-ghost use Rattle.rules_table.specs.Layout.{reservedFrom, kindOf, tagOf, decoded, encoded, freshHead};
+ghost use Rattle.rules_table.specs.Layout.{kindOf, tagOf, decoded, encoded};
 use rangelists::Allowed;
 use rangelists::Reserved;
 use rules_table::Attachment;
-use rules_table::Head;
 use rules_table::Kind;
 use rules_table::Object;
 use rules_table::RawObject;
-use rules_table::RawReserved;
 
-pub fn reserved_from(r: RawReserved) -> Reserved
-    ensures { λ l. ⌜ l ≡ reservedFrom r ⌝ }
-{
-    let starts = r.starts;
-    let lasts = r.lasts;
-    Reserved {
-        count: r.count,
-        starts,
-        lasts,
-    }
-}
-
-fn kind_of(kind: u32, home: u32) -> Kind
+pub fn kind_of(kind: u32, home: u32) -> Kind
     ensures { λ k. ⌜ k ≡ kindOf kind home ⌝ }
 {
     if kind == 3 {
@@ -105,37 +90,4 @@ pub fn encode(o: Object) -> RawObject
         froms,
         ends,
     }
-}
-
-// The numbers of all object records.
-pub fn encode_all(os: [Object; 32]) -> [RawObject; 32]
-    ensures { λ rs. ⌜ rs ≡ map encoded os ⌝ }
-{
-    let mut rs = [encode(os[0]); 32];
-    let mut i: usize = 0;
-    while i < 32 {
-        let r = encode(os[i]);
-        rs[i] = r;
-        i += 1;
-    }
-    rs
-}
-
-// The head of a table with every record released.
-pub fn fresh_head(limit: u64) -> Head
-    ensures { λ h. ⌜ h ≡ freshHead limit ⌝ }
-{
-    let object = RawObject {
-        kind: 0,
-        home: 0,
-        bitmap: 0,
-        reserves: 0,
-        allows: 0,
-        starts: [0; 4],
-        lasts: [0; 4],
-        froms: [0; 8],
-        ends: [0; 8],
-    };
-    let objects = [object; 32];
-    Head { limit, objects }
 }

@@ -2,3 +2,4 @@
 pub mod Records
 pub mod Lent
 pub mod Stored
+pub mod Loading

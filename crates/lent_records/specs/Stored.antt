@@ -1,15 +1,19 @@
 -- What is stored, in the words of the tables: nothing, one record, or the records that are released.
-use Prim.Native.Nat.{ℕ, zero, suc, _+_, _<_}
-use mathlib.Core.Path.{_≡_, refl, ap, _∙_}
+use Prim.Native.Nat.{ℕ, zero, suc, _+_, _≤_, _<_, zero-le}
+use mathlib.Core.Path.{_≡_, refl, sym, ap, _∙_}
 use mathlib.Core.List.{List, [], _∷_, map}
 use native.Mathlib.Omega.{arith}
-use lib.ListN.{set}
+use native.Mathlib.Nat.{le-refl}
+use lib.ListN.{length, set}
 use borrow.Author.Tests.{eq-eqb, ne-eqb}
 use Rattle.ranges.specs.declared.Range.{Range}
 use Rattle.rules_table.specs.declared.Mapping.{Mapping}
-use Rattle.rules_table.specs.Records.{within, release}
-use Rattle.lent_records.specs.declared.Records.the-variants.{Keep, Put, Clear}
-use Rattle.lent_records.specs.Records.{nextRecord, storedFrom, stored}
+use Rattle.rules_table.specs.Records.{zeroMapping, within, release}
+use Rattle.walks.specs.Stores.{stores, stores-none, stores-all}
+use Rattle.lent_records.specs.declared.Records.{Records}
+use Rattle.lent_records.specs.declared.Records.the-variants.{Keep, Put, Clear, Wipe}
+use Rattle.lent_records.specs.Records.{nextRecord, storedFrom, stored, turnsOf}
+use Rattle.lent_records.specs.Lent.{stored-length}
 
 keep-from : (k : ℕ) (ms : List Mapping) → storedFrom Keep k ms ≡ ms
 unfolding storedFrom nextRecord
@@ -46,3 +50,19 @@ clear-from s r k (m ∷ ms) = rw (clear-from s r (suc k) ms)
 pub stored-clear : (s : ℕ) (r : Range) (ms : List Mapping) → stored (Clear s r) ms ≡ map (release (within s r)) ms
 unfolding stored
 stored-clear s r ms = clear-from s r 0 ms
+
+pub turns-within : (c : Records) (n : ℕ) → turnsOf c n ≤ n
+turns-within Keep n = zero-le
+turns-within (Put i m) n = le-refl n
+turns-within (Clear s r) n = le-refl n
+turns-within Wipe n = le-refl n
+
+all-turns : (c : Records) (ms : List Mapping) → stores zeroMapping (stored c ms) ms (length ms) ≡ stored c ms
+all-turns c ms = ap (stores zeroMapping (stored c ms) ms) (sym (stored-length c ms)) ∙ stores-all zeroMapping (stored c ms) ms (sym (stored-length c ms))
+
+-- the turns that are taken leave what is stored
+pub stored-turns : (c : Records) (ms : List Mapping) → stores zeroMapping (stored c ms) ms (turnsOf c (length ms)) ≡ stored c ms
+stored-turns Keep ms = stores-none zeroMapping (stored Keep ms) ms ∙ sym (stored-keep ms)
+stored-turns (Put i m) ms = all-turns (Put i m) ms
+stored-turns (Clear s r) ms = all-turns (Clear s r) ms
+stored-turns Wipe ms = all-turns Wipe ms

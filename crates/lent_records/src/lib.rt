@@ -1,7 +1,9 @@
-// The mapping records in the caller's memory, behind two thin functions: they are read whole, and only those that a call changes are written, in place.
+// The mapping records in the caller's memory, behind two thin functions: their words are read whole, and only the records that a call changes are written, in place. Both take
+// a slice of any length.
 ghost use mathlib.Core.Path.{_≡_};
 ghost use lib.ListN.{length};
-ghost use Rattle.lent_records.specs.Records.{changes, becomes, stored};
+ghost use Rattle.lent_records.specs.Loading.{boundOf, Loaded};
+ghost use Rattle.lent_records.specs.Records.{changes, becomes, stored, turnsOf};
 use ranges::Range;
 use rules_table::Mapping;
 
@@ -49,30 +51,50 @@ pub fn new_record(c: Records) -> Mapping
     }
 }
 
-pub fn load(ms: &[Mapping]) -> [Mapping; 128]
-    requires { ⌜ length (now ms) ≡ 128 ⌝ }
-    ensures { λ a. ⌜ a ≡ now (ms .entry) ⌝ }
+// How many records are read: all of 128, and none of another number.
+fn bound(n: usize) -> usize
+    ensures { λ k. ⌜ k ≡ boundOf n ⌝ }
 {
-    let mut a = [ms[0]; 128];
+    if n == 128 {
+        return 128;
+    }
+    0
+}
+
+// How many of n records are looked at: none where none changes.
+fn turns(c: Records, n: usize) -> usize
+    ensures { λ k. ⌜ k ≡ turnsOf c n ⌝ }
+{
+    match c {
+        Records::Keep => 0,
+        Records::Put(_, _) => n,
+        Records::Clear(_, _) => n,
+        Records::Wipe => n,
+    }
+}
+
+// The words of the records, where there are 128 of them; else nothing is written.
+pub fn load(ms: &[Mapping], ws: &mut [[u64; 5]; 128])
+    ensures { λ _. ⌜ Loaded (now (ms .entry)) (now (ws .exit)) ⌝ }
+{
+    let n = bound(ms.len());
     let mut i: usize = 0;
-    while i < 128 {
-        a[i] = ms[i];
+    while i < n {
+        ws[i] = layout_mappings::words(ms[i]);
         i += 1;
     }
-    a
 }
 
 // Only the records that change are written.
 pub fn store(ms: &mut [Mapping], c: Records)
-    requires { ⌜ length (now ms) ≡ 128 ⌝ }
     ensures { λ _. ⌜ now (ms .exit) ≡ stored c (now (ms .entry)) ⌝ }
 {
-    let n = new_record(c);
+    let r = new_record(c);
+    let n = turns(c, ms.len());
     let mut i: usize = 0;
-    while i < 128 {
-        let m = ms[i];
-        if is_changed(c, i, m) {
-            ms[i] = n;
+    while i < n {
+        if is_changed(c, i, ms[i]) {
+            ms[i] = r;
         }
         i += 1;
     }

@@ -10,12 +10,6 @@ use Rattle.lists.specs.Search.{any}
 use Rattle.ranges.specs.declared.Range.{Range}
 use Rattle.ranges.specs.Ranges.{share, inside, passes, span}
 use Rattle.alignment.specs.Multiples.{multiple, roundUp}
-use Rattle.rangelists.specs.Listed.{listed}
-use Rattle.placement.specs.declared.Blocked.{Blocked}
-
--- the ranges in use
-unfoldable pub blockedList : Blocked → List Range
-blockedList b = listed (min (b .count) 256) (b .starts) (b .lasts)
 
 -- r lies inside one single range of the allow list, where that list is not empty
 unfoldable pub permits : List Range → Range → Bool

@@ -3,3 +3,5 @@ pub mod Candidates
 pub mod Lowest
 pub mod Jumps
 pub mod Worked
+pub mod Sweeping
+pub mod Passes

@@ -16,11 +16,9 @@ use Rattle.rules_table.specs.declared.Mapping.{Mapping}
 use Rattle.rules_table.specs.Records.{used, zeroMapping}
 use Rattle.rules_table.specs.Charge.{backs, mappingPages, backingPages, chargeIn, charge}
 use Rattle.table.specs.Charged.{backs-is, backs-of}
-use Rattle.rules_table.specs.Good.{differ, backingsAgree}
+use Rattle.rules_table.specs.Good.{differ}
 use Rattle.records.specs.Alone.{numbered, numbered-used, numbered-released, numbered-backed}
 use Rattle.lists.specs.Ends.{find-append-some, find-append-none}
-use Rattle.records.specs.declared.Charged.{Charged}
-use Rattle.records.specs.declared.Charged.the-variants.{Disagree, Sum}
 
 -- ---- records of one backing
 
@@ -182,10 +180,6 @@ pub charge-append : (xs : List Mapping) (m : Mapping) → numbered m ≡ true
     → charge (xs ++ m ∷ []) ≡ charge xs + onlyIf (not (any (backs (m .backing)) xs) && used m) (mappingPages m)
 unfolding charge
 charge-append xs m num = chargeIn-append (λ m. true) xs m num
-
--- what the check of the backings answers
-unfoldable pub chargedOf : List Mapping → Charged
-chargedOf ms = cond (backingsAgree ms) (Sum (charge ms)) Disagree
 
 -- ---- the pass over the records, which marks the first record of each backing: 0, or one more than its place
 

@@ -8,3 +8,4 @@ pub mod Fits
 pub mod Good
 pub mod Untouched
 pub mod Layout
+pub mod Words

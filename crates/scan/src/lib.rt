@@ -1,20 +1,23 @@
-// What MAP, COPY and UNMAP ask of the mapping records: each decides by one pass over the 128 records.
-// A pass hands on elements and numbers only, and has no branch: small functions give the values that it stores.
+// What MAP, COPY and UNMAP ask of the mapping records in place: each by one pass over them.
 ghost use mathlib.Core.Path.{_≡_};
 ghost use mathlib.Core.Bool.{true};
-ghost use Prim.Native.Nat.{_≤_};
+ghost use mathlib.Core.List.{List};
+ghost use Prim.Native.Nat.{ℕ, _≤_};
 ghost use lib.Dec.{eqb};
-ghost use lib.ListN.{getD};
+ghost use lib.ListN.{length, getD};
 ghost use Rattle.lists.specs.Tests.{onlyIf};
 ghost use Rattle.lists.specs.Search.{any, all};
 ghost use Rattle.lists.specs.Below.{lowest};
 ghost use Rattle.rangelists.specs.Listed.{found};
 ghost use Rattle.rules_table.specs.Records.{touches};
-ghost use Rattle.records.specs.Alone.{numbered};
-ghost use Rattle.scan.specs.Surveyed.{freeAfter, foundAt, surveyOf};
+ghost use Rattle.rules_table.specs.Charge.{freeMapping};
+ghost use Rattle.layout_mappings.specs.Words.{recordsOf};
+ghost use Rattle.check_mappings.specs.Told.{Told};
+ghost use Rattle.scan.specs.Surveyed.{surveyOf};
 ghost use Rattle.rules_calls.specs.Copy.{isSource, sourceOf};
 ghost use Rattle.scan.specs.Removed.{short, removalOf};
 ghost use Rattle.scan.specs.Sourced.{sourced};
+use check_mappings::Pass;
 use rangelists::Found;
 use ranges::Range;
 use rules_table::Mapping;
@@ -25,7 +28,7 @@ pub enum Source {
     Mapped(Mapping),
 }
 
-// For MAP and COPY: the lowest released record, the lowest backing number that is not in use, and the charge.
+// For MAP and COPY: the lowest released slot, the lowest backing number that is not in use, and the charge.
 pub struct Survey {
     pub free: Found,
     pub backing: Found,
@@ -52,33 +55,29 @@ fn is_source(m: Mapping, s: u32, address: u64, length: u64) -> bool
 
 // ---- MAP and COPY
 
-// The lowest released place, after that of a record of this space at i. 128 stands for none.
-fn free_after(free: usize, i: usize, space: u32) -> usize
-    ensures { λ k. ⌜ k ≡ freeAfter free i space ⌝ }
+// The lowest released slot.
+pub fn free_record(ws: &[[u64; 5]]) -> Found
+    ensures { λ f. ⌜ f ≡ found (freeMapping (recordsOf (now (ws .entry)))) ⌝ }
 {
-    if free != 128 {
-        return free;
+    let mut i: usize = 0;
+    while i < ws.len() {
+        let m = layout_mappings::record(ws, i);
+        if m.space == 0 {
+            return Found::At(i);
+        }
+        i += 1;
     }
-    if space == 0 { i } else { 128 }
-}
-
-fn place_found(free: usize) -> Found
-    ensures { λ f. ⌜ f ≡ foundAt free ⌝ }
-{
-    if free == 128 {
-        return Found::Nothing;
-    }
-    Found::At(free)
+    Found::Nothing
 }
 
 // The lowest number from 1 on that has no mark.
-fn lowest_unmarked(marks: [u8; 129]) -> Found
-    ensures { λ f. ⌜ f ≡ found (lowest (λ b. eqb (getD marks b 0) 0) 128 1) ⌝ }
+fn lowest_unmarked(marks: &[u8]) -> Found
+    requires { ⌜ length (now marks) ≡ 129 ⌝ }
+    ensures { λ f. ⌜ f ≡ found (lowest (λ b. eqb (getD (now (marks .entry)) b 0) 0) 128 1) ⌝ }
 {
     let mut b: usize = 1;
     while b < 129 {
-        let mark = marks[b];
-        if mark == 0 {
+        if marks[b] == 0 {
             return Found::At(b);
         }
         b += 1;
@@ -86,40 +85,27 @@ fn lowest_unmarked(marks: [u8; 129]) -> Found
     Found::Nothing
 }
 
-// `marks` has a 1 for each backing that was seen. A backing is charged with its first record.
-pub fn survey_of(ms: [Mapping; 128]) -> Survey
-    requires { ⌜ all numbered ms ≡ true ⌝ }
-    ensures { λ v. ⌜ v ≡ surveyOf ms ⌝ }
+// From what the check has found: only the released slot is looked for.
+pub fn survey_of<'a>(ws: &'a [[u64; 5]], p: Pass, marks: &'a [u8]) -> Survey
+    requires { ⌜ length (now marks) ≡ 129 ⌝ }
+    ensures { λ v. ⌜ ((pages : List ℕ) → Told pages (recordsOf (now (ws .entry))) p (now (marks .entry)) → p .good ≡ true → v ≡ surveyOf (recordsOf (now (ws .entry)))) ⌝ }
 {
-    let mut marks: [u8; 129] = [0; 129];
-    let mut free: usize = 128;
-    let mut charge: u64 = 0;
-    let mut i: usize = 0;
-    while i < 128 {
-        let m = ms[i];
-        let b = m.backing as usize;
-        let mark = marks[b];
-        free = free_after(free, i, m.space);
-        charge += records::pages_if(mark, m);
-        marks[b] = 1;
-        i += 1;
-    }
-    let place = place_found(free);
+    let free = free_record(ws);
     let backing = lowest_unmarked(marks);
     Survey {
-        free: place,
+        free,
         backing,
-        charge,
+        charge: p.charge,
     }
 }
 
-// Whether a mapping of space s has an address in the range. Only a fixed address asks it, before the survey.
-pub fn is_taken(ms: [Mapping; 128], s: u32, r: Range) -> bool
-    ensures { λ b. ⌜ b ≡ any (touches s r) ms ⌝ }
+// Whether a mapping of space s has an address in the range.
+pub fn is_taken(ws: &[[u64; 5]], s: u32, r: Range) -> bool
+    ensures { λ b. ⌜ b ≡ any (touches s r) (recordsOf (now (ws .entry))) ⌝ }
 {
     let mut i: usize = 0;
-    while i < 128 {
-        let m = ms[i];
+    while i < ws.len() {
+        let m = layout_mappings::record(ws, i);
         if table::is_touched(m, s, r) {
             return true;
         }
@@ -129,12 +115,12 @@ pub fn is_taken(ms: [Mapping; 128], s: u32, r: Range) -> bool
 }
 
 // The source of a COPY: the mapping of space s with this address and length.
-pub fn find_mapping(ms: [Mapping; 128], s: u32, address: u64, length: u64) -> Source
-    ensures { λ f. ⌜ f ≡ sourced (sourceOf ms s address length) ⌝ }
+pub fn find_mapping(ws: &[[u64; 5]], s: u32, address: u64, length: u64) -> Source
+    ensures { λ f. ⌜ f ≡ sourced (sourceOf (recordsOf (now (ws .entry))) s address length) ⌝ }
 {
     let mut i: usize = 0;
-    while i < 128 {
-        let m = ms[i];
+    while i < ws.len() {
+        let m = layout_mappings::record(ws, i);
         if is_source(m, s, address, length) {
             return Source::Mapped(m);
         }
@@ -152,16 +138,16 @@ fn length_if(goes: bool, length: u64) -> u64
 }
 
 // The lengths are at most 2^40 each, so that their sum fits.
-pub fn removal_of(ms: [Mapping; 128], s: u32, r: Range) -> Removal
-    requires { ⌜ all short ms ≡ true ⌝ }
-    ensures { λ v. ⌜ v ≡ removalOf s r ms ⌝ }
+pub fn removal_of(ws: &[[u64; 5]], s: u32, r: Range) -> Removal
+    requires { ⌜ (length (now ws) ≡ 128) × (all short (recordsOf (now ws)) ≡ true) ⌝ }
+    ensures { λ v. ⌜ v ≡ removalOf s r (recordsOf (now (ws .entry))) ⌝ }
 {
     let mut cut = false;
     let mut some = false;
     let mut bytes: u64 = 0;
     let mut i: usize = 0;
     while i < 128 {
-        let m = ms[i];
+        let m = layout_mappings::record(ws, i);
         let goes = table::is_within(m, s, r);
         let touched = table::is_touched(m, s, r);
         cut = checks::either(cut, checks::both(touched, !goes));

@@ -11,3 +11,4 @@ pub mod Fresh
 pub mod Homes
 pub mod Aligned
 pub mod Fitting
+pub mod Paged

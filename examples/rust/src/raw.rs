@@ -1,8 +1,8 @@
 //! The layout of include/iommufd.h and its entries, as C has them, for a caller that lends memory of its own. What each entry asks of its caller stands in the header.
-use core::mem::size_of;
+use core::mem::{align_of, size_of};
 
 /// The version of the header that is written down here.
-pub const VERSION: u32 = 1;
+pub const VERSION: u32 = 2;
 
 /// The object records of a table.
 pub const OBJECTS: usize = 32;
@@ -93,6 +93,79 @@ impl Mapping {
     pub const RELEASED: Mapping = Mapping { space: 0, rights: 0, founder: 0, backing: 0, address: 0, length: 0, memory: 0 };
 }
 
+/// The words of a host call.
+pub const HOST_WORDS: usize = 10;
+
+/// A host call for `iommufd_host`: its kind, and its numbers in ten words. What it tells comes back in the first.
+#[derive(Clone, Copy, Debug, PartialEq, Eq)]
+pub struct Host {
+    /// Which call it is.
+    pub kind: u32,
+    /// Its numbers, from the first word on.
+    pub words: [u64; HOST_WORDS],
+}
+
+impl Host {
+    /// An empty table with a charge limit.
+    pub const FRESH: u32 = 0;
+    /// A new device.
+    pub const BIND: u32 = 1;
+    /// A device to a space.
+    pub const ATTACH: u32 = 2;
+    /// A device from its space.
+    pub const DETACH: u32 = 3;
+    /// The memory that a device gets to. The entry writes neither head nor records.
+    pub const REACH: u32 = 4;
+    /// The pages that are charged. The entry writes neither head nor records.
+    pub const CHARGE: u32 = 5;
+
+    #[inline]
+    fn of(kind: u32, numbers: &[u64]) -> Host {
+        let mut words = [0; HOST_WORDS];
+        for (word, number) in words.iter_mut().zip(numbers) {
+            *word = *number;
+        }
+        Host { kind, words }
+    }
+
+    /// C's `iommufd_fresh`.
+    #[inline]
+    pub fn fresh(limit: u64) -> Host {
+        Host::of(Host::FRESH, &[limit])
+    }
+
+    /// C's `iommufd_bind`.
+    #[inline]
+    pub fn bind(bitmap: u64, reserved: &Reserved) -> Host {
+        let (count, [s0, s1, s2, s3], [l0, l1, l2, l3]) = (reserved.count.into(), reserved.starts, reserved.lasts);
+        Host::of(Host::BIND, &[bitmap, count, s0, s1, s2, s3, l0, l1, l2, l3])
+    }
+
+    /// C's `iommufd_attach`.
+    #[inline]
+    pub fn attach(device: u32, space: u32) -> Host {
+        Host::of(Host::ATTACH, &[device.into(), space.into()])
+    }
+
+    /// C's `iommufd_detach`.
+    #[inline]
+    pub fn detach(device: u32) -> Host {
+        Host::of(Host::DETACH, &[device.into()])
+    }
+
+    /// C's `iommufd_reach`.
+    #[inline]
+    pub fn reach(device: u32, address: u64, length: u64, write: u32) -> Host {
+        Host::of(Host::REACH, &[device.into(), address, length, write.into()])
+    }
+
+    /// C's `iommufd_charge`.
+    #[inline]
+    pub fn charge() -> Host {
+        Host::of(Host::CHARGE, &[])
+    }
+}
+
 /// The reserved ranges of a device to bind.
 #[repr(C)]
 #[derive(Clone, Copy, Debug, Default, PartialEq, Eq)]
@@ -117,8 +190,10 @@ pub struct Number {
     pub value: u64,
 }
 
+// The archive takes the head as 865 words, two fields of 32 bits in one of them.
+const _: () = assert!(cfg!(target_endian = "little") && align_of::<Head>() == 8 && align_of::<Mapping>() == 8);
 const _: () = assert!(size_of::<Object>() == 216);
-const _: () = assert!(size_of::<Head>() == 6920);
+const _: () = assert!(size_of::<Head>() == 865 * 8);
 const _: () = assert!(size_of::<Mapping>() == 40);
 const _: () = assert!(size_of::<Reserved>() == 72);
 const _: () = assert!(size_of::<Number>() == 16);
@@ -126,11 +201,12 @@ const _: () = assert!(size_of::<Number>() == 16);
 #[allow(missing_docs)] // include/iommufd.h says what each entry does
 extern "C" {
     pub static iommufd_archive_version: u32;
-    pub fn iommufd_fresh(head: *mut Head, mappings: *mut Mapping, count: usize, limit: u64) -> i32;
     pub fn iommufd_call(
         head: *mut Head,
         mappings: *mut Mapping,
         count: usize,
+        beside: *mut u64,
+        beside_count: usize,
         request: u32,
         command: *mut u8,
         command_size: usize,
@@ -141,23 +217,25 @@ extern "C" {
         head: *const Head,
         mappings: *const Mapping,
         count: usize,
+        beside: *const u64,
+        beside_count: usize,
         request: u32,
         command: *mut u8,
         command_size: usize,
         area: *mut u8,
         area_size: usize,
     ) -> i32;
-    pub fn iommufd_bind(head: *mut Head, mappings: *mut Mapping, count: usize, bitmap: u64, reserved: Reserved) -> i32;
-    pub fn iommufd_attach(head: *mut Head, mappings: *mut Mapping, count: usize, device: u32, space: u32) -> i32;
-    pub fn iommufd_detach(head: *mut Head, mappings: *mut Mapping, count: usize, device: u32) -> i32;
-    pub fn iommufd_reach(
-        head: *const Head,
-        mappings: *const Mapping,
+    pub fn iommufd_host(
+        head: *mut Head,
+        mappings: *mut Mapping,
         count: usize,
-        device: u32,
-        address: u64,
-        length: u64,
-        write: u32,
-    ) -> Number;
-    pub fn iommufd_charge(head: *const Head, mappings: *const Mapping, count: usize) -> Number;
+        beside: *mut u64,
+        beside_count: usize,
+        kind: u32,
+        words: *mut u64,
+        words_count: usize,
+    ) -> i32;
 }
+
+/// The address of what stands beside a table: nothing today, so it is one that an empty slice may have, aligned and not null.
+pub const BESIDE: *mut u64 = core::ptr::NonNull::dangling().as_ptr();

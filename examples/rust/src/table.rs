@@ -3,7 +3,7 @@
 use crate::command::Range;
 use crate::errno::{done, Errno};
 use crate::mappings::Mappings;
-use crate::raw;
+use crate::raw::{self, Host};
 
 /// A table: spaces, devices and mappings, 12 KB, laid out as C's `struct iommufd_table`. What it holds comes from the archive alone, so that it is never bad.
 #[repr(C)]
@@ -38,10 +38,7 @@ impl Table {
 
     /// Makes this table one without objects, whatever it held, with a charge limit in pages, at most 2^36. Above that [`Errno::Inval`], and the table stays as it was.
     pub fn fresh(&mut self, limit: u64) -> Result<(), Errno> {
-        // SAFETY: head and records are two fields of a table that is borrowed for the call, so valid, aligned, apart, and nobody else's, with the layout of the header, which
-        // tests/header.rs compares; the length is that of the records.
-        let result = unsafe { raw::iommufd_fresh(&mut self.head, self.mappings.as_mut_ptr(), self.mappings.len(), limit) };
-        done(result).map(|_| ())
+        self.host(Host::fresh(limit)).map(|_| ())
     }
 }
 
@@ -50,13 +47,16 @@ impl Table {
     /// Runs a command: a request number, the command's bytes and the range area, with the list of ALLOW_IOVAS or room for that of IOVA_RANGES. Any number and any bytes are
     /// answered. The reply is written into the bytes and the area; a refusal writes nothing, but that of [`Errno::MsgSize`].
     pub fn call(&mut self, request: u32, command: &mut [u8], area: &mut [u8]) -> Result<(), Errno> {
-        // SAFETY: the table as in `fresh`. Command and area are slices borrowed by `&mut`: valid for their lengths, apart from each other and from the table, and a slice's
-        // pointer is not null where the slice is empty.
+        // SAFETY: head and records are two fields of a table that is borrowed for the call, so valid, aligned, apart, and nobody else's, with the layout of the header, which
+        // tests/header.rs compares; the length is that of the records. Nothing is lent beside them. Command and area are slices borrowed by `&mut`: valid for their lengths,
+        // apart from each other and from the table, and a slice's pointer is not null where the slice is empty.
         let result = unsafe {
             raw::iommufd_call(
                 &mut self.head,
                 self.mappings.as_mut_ptr(),
                 self.mappings.len(),
+                raw::BESIDE,
+                0,
                 request,
                 command.as_mut_ptr(),
                 command.len(),
@@ -69,12 +69,14 @@ impl Table {
 
     /// What [`Table::call`] would answer now, with the same reply in the bytes and the area. The table stays.
     pub fn preview(&self, request: u32, command: &mut [u8], area: &mut [u8]) -> Result<(), Errno> {
-        // SAFETY: head and records are borrowed by `&`, and the entry only reads them; command and area as in `call`.
+        // SAFETY: head and records are borrowed by `&`, and the entry only reads them; the rest as in `call`.
         let result = unsafe {
             raw::iommufd_preview(
                 &self.head,
                 self.mappings.as_ptr(),
                 self.mappings.len(),
+                raw::BESIDE,
+                0,
                 request,
                 command.as_mut_ptr(),
                 command.len(),
@@ -83,6 +85,27 @@ impl Table {
             )
         };
         done(result).map(|_| ())
+    }
+}
+
+/// The two ways to the host calls. What the call tells, 0 where that is nothing.
+impl Table {
+    fn host(&mut self, mut host: Host) -> Result<u64, Errno> {
+        let (words, count) = (host.words.as_mut_ptr(), host.words.len());
+        // SAFETY: the table as in `call`; the words are a variable of this function.
+        let result = unsafe {
+            raw::iommufd_host(&mut self.head, self.mappings.as_mut_ptr(), self.mappings.len(), raw::BESIDE, 0, host.kind, words, count)
+        };
+        done(result).map(|_| host.words[0])
+    }
+
+    /// For the kinds that only read, which is their caller's to see to: reach and charge.
+    fn ask(&self, mut host: Host) -> Result<u64, Errno> {
+        let (head, mappings) = ((&raw const self.head).cast_mut(), self.mappings.as_ptr().cast_mut());
+        let (words, count) = (host.words.as_mut_ptr(), host.words.len());
+        // SAFETY: head and records are borrowed by `&`, and for a kind that only reads the entry writes neither; the rest as in `host`.
+        let result = unsafe { raw::iommufd_host(head, mappings, self.mappings.len(), raw::BESIDE, 0, host.kind, words, count) };
+        done(result).map(|_| host.words[0])
     }
 }
 
@@ -95,37 +118,28 @@ impl Table {
         for ((start, last), range) in places.zip(ranges) {
             (*start, *last) = (range.start, range.last);
         }
-        // SAFETY: the table as in `fresh`; the reserved ranges go by value.
-        done(unsafe { raw::iommufd_bind(&mut self.head, self.mappings.as_mut_ptr(), self.mappings.len(), bitmap, reserved) })
+        // an id is at most 32
+        self.host(Host::bind(bitmap, &reserved)).map(|id| id as u32)
     }
 
     /// A device to a space, whose mappings and allow list have to fit the device's page size and reserved ranges.
     pub fn attach(&mut self, device: u32, space: u32) -> Result<(), Errno> {
-        // SAFETY: the table as in `fresh`.
-        let result = unsafe { raw::iommufd_attach(&mut self.head, self.mappings.as_mut_ptr(), self.mappings.len(), device, space) };
-        done(result).map(|_| ())
+        self.host(Host::attach(device, space)).map(|_| ())
     }
 
     /// A device from its space. Mappings stay.
     pub fn detach(&mut self, device: u32) -> Result<(), Errno> {
-        // SAFETY: the table as in `fresh`.
-        let result = unsafe { raw::iommufd_detach(&mut self.head, self.mappings.as_mut_ptr(), self.mappings.len(), device) };
-        done(result).map(|_| ())
+        self.host(Host::detach(device)).map(|_| ())
     }
 
     /// The memory that a device gets to with so many bytes at an address: they lie wholly inside one mapping of its space that has the right.
     pub fn reach(&self, device: u32, address: u64, length: u64, access: Access) -> Result<u64, Errno> {
-        let write = u32::from(access == Access::Write);
-        // SAFETY: the table as in `preview`.
-        let number = unsafe { raw::iommufd_reach(&self.head, self.mappings.as_ptr(), self.mappings.len(), device, address, length, write) };
-        done(number.result).map(|_| number.value)
+        self.ask(Host::reach(device, address, length, u32::from(access == Access::Write)))
     }
 
     /// The pages of all backings, each counted once. They never pass the limit.
     pub fn charge(&self) -> Result<u64, Errno> {
-        // SAFETY: the table as in `preview`.
-        let number = unsafe { raw::iommufd_charge(&self.head, self.mappings.as_ptr(), self.mappings.len()) };
-        done(number.result).map(|_| number.value)
+        self.ask(Host::charge())
     }
 
     /// The mappings of a space in ascending address; none for an id that is no space.

@@ -1,6 +1,6 @@
 //! What the wrapper writes down against include/iommufd.h, which is read here.
 use iommufd::command::{AllowIovas, Copy, Destroy, IoasAlloc, IovaRanges, Map, Unmap};
-use iommufd::raw::{self, Head, Mapping, Number, Object, Reserved};
+use iommufd::raw::{self, Head, Host, Mapping, Number, Object, Reserved};
 use iommufd::{request, Errno, Range, Table, FIXED, READABLE, WRITEABLE};
 use std::collections::BTreeMap;
 use std::mem::{align_of, offset_of, size_of};
@@ -87,10 +87,42 @@ fn flags_and_counts() {
         ("RIGHT_READ", raw::RIGHT_READ.into()),
         ("OBJECTS", raw::OBJECTS as u64),
         ("MAPPINGS", raw::MAPPINGS as u64),
+        ("HOST_WORDS", raw::HOST_WORDS as u64),
     ]);
     for (name, number) in ours {
         assert_eq!(defined.get(&name), Some(&number), "{name}");
     }
+}
+
+/// The kinds of the host calls: an enum in the header.
+#[test]
+fn kinds() {
+    let ours = named(&[
+        ("FRESH", Host::FRESH.into()),
+        ("BIND", Host::BIND.into()),
+        ("ATTACH", Host::ATTACH.into()),
+        ("DETACH", Host::DETACH.into()),
+        ("REACH", Host::REACH.into()),
+        ("CHARGE", Host::CHARGE.into()),
+    ]);
+    let header = header();
+    let of = |line: &str| -> Option<(String, u64)> {
+        let (name, rest) = line.strip_prefix("\tIOMMUFD_HOST_")?.split_once(" = ")?;
+        Some((name.to_string(), number(rest.split_once(',')?.0)?))
+    };
+    assert_eq!(ours, header.lines().filter_map(of).collect());
+}
+
+/// Numbers that all differ come to the places that the header lists.
+#[test]
+fn words() {
+    let reserved = Reserved { count: 2, spare: 99, starts: [3, 4, 5, 6], lasts: [7, 8, 9, 10] };
+    assert_eq!(Host::fresh(1).words, [1, 0, 0, 0, 0, 0, 0, 0, 0, 0]);
+    assert_eq!(Host::bind(1, &reserved).words, [1, 2, 3, 4, 5, 6, 7, 8, 9, 10]);
+    assert_eq!(Host::attach(1, 2).words, [1, 2, 0, 0, 0, 0, 0, 0, 0, 0]);
+    assert_eq!(Host::detach(1).words, [1, 0, 0, 0, 0, 0, 0, 0, 0, 0]);
+    assert_eq!(Host::reach(1, 2, 3, 4).words, [1, 2, 3, 4, 0, 0, 0, 0, 0, 0]);
+    assert_eq!(Host::charge().words, [0; 10]);
 }
 
 /// The header, the wrapper and the archive are of one version.

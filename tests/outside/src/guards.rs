@@ -1,8 +1,9 @@
-//! The archive on memory with guard bytes around every part that is lent, the command and the area at any address, odd ones too.
+//! The archive on memory with guard bytes around every part that is lent, the command and the area at any address, odd ones too. What a host call does not read of its words
+//! is left to chance.
 use crate::boundary;
 use crate::calls::{Call, Lent};
 use crate::dice::Dice;
-use iommufd::raw::{Head, Mapping, Number};
+use iommufd::raw::{Head, Host, Mapping, Number, HOST_WORDS};
 
 const FENCE: usize = 24;
 const FENCE_RECORDS: usize = 2;
@@ -61,6 +62,49 @@ fn fenced_records(records: &[Mapping], fence: Mapping) -> Vec<Mapping> {
     [&fence, records, &fence].concat()
 }
 
+/// The bits of each word that a kind of host call reads.
+fn bits_read(kind: u32) -> [u64; HOST_WORDS] {
+    const ALL: u64 = u64::MAX;
+    const LOW: u64 = u32::MAX as u64;
+    match kind {
+        Host::FRESH => [ALL, 0, 0, 0, 0, 0, 0, 0, 0, 0],
+        Host::BIND => [ALL, LOW, ALL, ALL, ALL, ALL, ALL, ALL, ALL, ALL],
+        Host::ATTACH => [LOW, LOW, 0, 0, 0, 0, 0, 0, 0, 0],
+        Host::DETACH => [LOW, 0, 0, 0, 0, 0, 0, 0, 0, 0],
+        Host::REACH => [LOW, ALL, ALL, ALL, 0, 0, 0, 0, 0, 0],
+        _ => [0; HOST_WORDS],
+    }
+}
+
+/// The words of a host call in the middle of others, at times with some more behind them.
+struct FencedWords {
+    memory: Vec<u64>,
+    given: Vec<u64>,
+    pattern: u64,
+}
+
+impl FencedWords {
+    fn around(host: &Host, dice: &mut Dice) -> FencedWords {
+        let (pattern, more) = (dice.roll(), dice.below(3));
+        let read = host.words.iter().zip(bits_read(host.kind));
+        let mut given: Vec<u64> = read.map(|(word, bits)| (word & bits) | (dice.roll() & !bits)).collect();
+        given.extend((0..more).map(|_| dice.roll()));
+        let fence = [pattern; FENCE];
+        FencedWords { memory: [&fence[..], &given, &fence].concat(), given, pattern }
+    }
+
+    fn lent(&mut self) -> &mut [u64] {
+        &mut self.memory[FENCE..FENCE + self.given.len()]
+    }
+
+    /// Only the first word may be another, where the call tells something.
+    fn intact(&self, tells: bool) -> bool {
+        let (before, rest) = self.memory.split_at(FENCE);
+        let (words, after) = rest.split_at(self.given.len());
+        before == [self.pattern; FENCE] && after == [self.pattern; FENCE] && words[1..] == self.given[1..] && (tells || words[0] == self.given[0])
+    }
+}
+
 fn bytes_back(call: &mut Call, new_bytes: &[u8], new_area: &[u8]) {
     if let Call::Command { bytes, area, .. } | Call::Preview { bytes, area, .. } = call {
         bytes.copy_from_slice(new_bytes);
@@ -79,7 +123,14 @@ pub fn run(dice: &mut Dice, lent: &mut Lent, call: &mut Call) -> Result<Number, 
     let (before, rest) = memory.split_at_mut(FENCE_RECORDS);
     let (records, after) = rest.split_at_mut(lent.mappings.len());
 
-    let number = boundary::lend(&mut head.head, records, call, bytes.lent(), area.lent());
+    let mut words_intact = true;
+    let number = boundary::lend_with(&mut head.head, records, call, bytes.lent(), area.lent(), |head, records, host| {
+        let mut words = FencedWords::around(host, dice);
+        let result = boundary::enter(head, records, host.kind, words.lent());
+        words_intact = words.intact(result == 0 && host.kind != Host::FRESH);
+        host.words[0] = words.lent()[0];
+        result
+    });
 
     *lent.head = head.head.clone();
     lent.mappings.copy_from_slice(records);
@@ -89,6 +140,7 @@ pub fn run(dice: &mut Dice, lent: &mut Lent, call: &mut Call) -> Result<Number, 
         (before.iter().chain(after.iter()).all(|record| *record == fence), "memory beside the mapping records was written"),
         (bytes.intact(), "memory beside the command was written"),
         (area.intact(), "memory beside the range area was written"),
+        (words_intact, "words of a host call, or memory beside them, were written that tell nothing"),
     ];
     intact.iter().find(|(holds, _)| !holds).map_or(Ok(number), |(_, broken)| Err(broken))
 }
@@ -108,6 +160,23 @@ mod tests {
             for at in [fenced.from - 1, fenced.from + len] {
                 fenced.memory[at] ^= 1;
                 assert!(!fenced.intact());
+                fenced.memory[at] ^= 1;
+            }
+        }
+    }
+
+    #[test]
+    fn a_word_that_tells_nothing_is_noticed() {
+        let (mut dice, host) = (Dice::new(4), Host::attach(1, 2));
+        for _ in 0..9 {
+            let mut fenced = FencedWords::around(&host, &mut dice);
+            assert_eq!([fenced.lent()[0] as u32, fenced.lent()[1] as u32], [1, 2]);
+            assert!(fenced.intact(false));
+            fenced.lent()[0] ^= 1;
+            assert!(fenced.intact(true) && !fenced.intact(false));
+            for at in [FENCE - 1, FENCE + 1, FENCE + fenced.given.len() - 1, FENCE + fenced.given.len()] {
+                fenced.memory[at] ^= 1;
+                assert!(!fenced.intact(true));
                 fenced.memory[at] ^= 1;
             }
         }

@@ -1,5 +1,6 @@
-//! What a systems programmer would write instead of the archive: plain safe Rust on the same layout, in place and without allocation. It gives document 01's answers for any
-//! table and any bytes where it checks the table before every call (`CHECKED`, by the archive's own algorithm), and for good tables where it trusts the table.
+//! What a systems programmer would write instead of the archive: plain safe Rust on the same layout, in place and without allocation. It gives
+//! document 01's answers for any table and any bytes where it checks the table before every call (`CHECKED`), and for good tables where it trusts the
+//! table. It goes by the archive's own steps, so that two programs are compared and not two algorithms.
 //!
 //! A command is decided on the table as it stands and only then applied, so that a refusal writes nothing and a preview is the decision alone.
 mod check;
@@ -14,6 +15,7 @@ mod wire;
 mod tests;
 
 use crate::calls::{Call, Lent};
+use check::Found;
 use iommufd::raw::{Head, Mapping, Number, Object, Reserved};
 use table::Table;
 
@@ -65,10 +67,13 @@ fn refuse(fires: bool, errno: Errno) -> Answer<()> {
     }
 }
 
-/// The first check of every call.
-fn table<'a, const CHECKED: bool>(head: &'a Head, mappings: &'a [Mapping]) -> Answer<Table<'a>> {
-    refuse(CHECKED && !check::is_good(head, mappings), EUCLEAN)?;
-    Ok(Table { head, mappings })
+/// What a call decides on a table, behind the first check of every call.
+#[inline(always)]
+fn decide<const CHECKED: bool, T>(head: &Head, mappings: &[Mapping], decide: impl FnOnce(Table) -> Answer<T>) -> Answer<T> {
+    let mappings = mappings.try_into().map_err(|_| EUCLEAN)?;
+    let mut found = Found::nothing();
+    refuse(CHECKED && !check::is_good(head, mappings, &mut found), EUCLEAN)?;
+    decide(Table { head, mappings, found: CHECKED.then_some(&found) })
 }
 
 fn result(answer: Answer<i32>) -> i32 {
@@ -100,7 +105,7 @@ pub fn fresh(head: &mut Head, mappings: &mut [Mapping], limit: u64) -> i32 {
 
 #[inline(never)]
 pub fn call<const CHECKED: bool>(head: &mut Head, mappings: &mut [Mapping], request: u32, command: &mut [u8], area: &mut [u8]) -> i32 {
-    let decided = table::<CHECKED>(head, mappings).and_then(|t| commands::decide(t, request, command, area));
+    let decided = decide::<CHECKED, _>(head, mappings, |t| commands::decide(t, request, command, area));
     result(decided.map(|change| {
         commands::apply(head, mappings, change, area);
         0
@@ -109,13 +114,13 @@ pub fn call<const CHECKED: bool>(head: &mut Head, mappings: &mut [Mapping], requ
 
 #[inline(never)]
 pub fn preview<const CHECKED: bool>(head: &Head, mappings: &[Mapping], request: u32, command: &mut [u8], area: &mut [u8]) -> i32 {
-    let decided = table::<CHECKED>(head, mappings).and_then(|t| commands::decide(t, request, command, area));
+    let decided = decide::<CHECKED, _>(head, mappings, |t| commands::decide(t, request, command, area));
     result(decided.map(|_| 0))
 }
 
 #[inline(never)]
 pub fn bind<const CHECKED: bool>(head: &mut Head, mappings: &mut [Mapping], bitmap: u64, reserved: &Reserved) -> i32 {
-    let place = table::<CHECKED>(head, mappings).and_then(|t| host::bind(t, bitmap, reserved));
+    let place = decide::<CHECKED, _>(head, mappings, |t| host::bind(t, bitmap, reserved));
     result(place.map(|i| {
         head.objects[i] = host::device(bitmap, reserved);
         i as i32 + 1
@@ -124,7 +129,7 @@ pub fn bind<const CHECKED: bool>(head: &mut Head, mappings: &mut [Mapping], bitm
 
 #[inline(never)]
 pub fn attach<const CHECKED: bool>(head: &mut Head, mappings: &mut [Mapping], device: u32, space: u32) -> i32 {
-    let place = table::<CHECKED>(head, mappings).and_then(|t| host::attach(t, device, space));
+    let place = decide::<CHECKED, _>(head, mappings, |t| host::attach(t, device, space));
     result(place.map(|i| {
         head.objects[i].kind = ATTACHED;
         head.objects[i].home = space;
@@ -134,7 +139,7 @@ pub fn attach<const CHECKED: bool>(head: &mut Head, mappings: &mut [Mapping], de
 
 #[inline(never)]
 pub fn detach<const CHECKED: bool>(head: &mut Head, mappings: &mut [Mapping], device: u32) -> i32 {
-    let place = table::<CHECKED>(head, mappings).and_then(|t| host::detach(t, device));
+    let place = decide::<CHECKED, _>(head, mappings, |t| host::detach(t, device));
     result(place.map(|i| {
         head.objects[i].kind = LOOSE;
         head.objects[i].home = 0;
@@ -144,12 +149,12 @@ pub fn detach<const CHECKED: bool>(head: &mut Head, mappings: &mut [Mapping], de
 
 #[inline(never)]
 pub fn reach<const CHECKED: bool>(head: &Head, mappings: &[Mapping], device: u32, address: u64, length: u64, write: u32) -> Number {
-    number(table::<CHECKED>(head, mappings).and_then(|t| host::reach(t, device, address, length, write != 0)))
+    number(decide::<CHECKED, _>(head, mappings, |t| host::reach(t, device, address, length, write != 0)))
 }
 
 #[inline(never)]
 pub fn charge<const CHECKED: bool>(head: &Head, mappings: &[Mapping]) -> Number {
-    number(table::<CHECKED>(head, mappings).map(|t| t.backings().charge))
+    number(decide::<CHECKED, _>(head, mappings, |t| Ok(t.charge())))
 }
 
 // ---- as systems

@@ -1,7 +1,8 @@
 //! What the archive was given and what it answered, call by call, as bytes that tests/replay/replay.c reads.
 //!
 //! All numbers are little-endian. A head, a mapping record and a list of reserved ranges are the memory of their structs in include/iommufd.h, which have no gaps.
-//! A recording is the 8 bytes `IOMMUFD1`, then items. An item is a u32 that says what it is, and what stands beside it here:
+//! A recording is the 8 bytes `IOMMUFD1`, then items. An item is a u32 that says what it is, and what stands beside it here; the
+//! calls have their names in the header:
 //!
 //! | u32 | what it is | what follows |
 //! |---|---|---|
@@ -9,15 +10,15 @@
 //! | 1 | a sequence begins | u64 seed, the number that `differential --sequence` takes |
 //! | 2 | the table's memory was changed from outside | u32 number of records that are lent, head, so many records |
 //! | 3 | `iommufd_fresh` | u64 limit |
-//! | 4 | `iommufd_call` | u32 request, u32 size of the command, u32 size of the area, the bytes of both |
-//! | 5 | `iommufd_preview` | the same |
+//! | 4 | `iommufd_command` | u32 request, u32 size of the command, u32 size of the area, the bytes of both |
+//! | 5 | `iommufd_command_preview` | the same |
 //! | 6 | `iommufd_bind` | u64 bitmap, reserved ranges |
 //! | 7 | `iommufd_attach` | u32 device, u32 space |
 //! | 8 | `iommufd_detach` | u32 device |
 //! | 9 | `iommufd_reach` | u32 device, u64 address, u64 length, u32 write |
 //! | 10 | `iommufd_charge` | |
 //!
-//! The items from 3 on are calls, on the table as the item before left it. Behind the arguments of each stands its answer: i32 result, u64 value (0 where the entry gives
+//! The items from 3 on are calls, on the table as the item before left it. Behind the arguments of each stands its answer: i32 result, u64 value (0 where the call gives
 //! none), u64 digest of head, records, command and area after the call. The first call of a sequence has an item 2 before it. A digest is FNV-1a of 64 bits.
 use crate::calls::{Call, Lent};
 use crate::compare::{Answer, Difference, Tried};

@@ -39,13 +39,22 @@ impl Cell {
         Job::new(self.workload, self.shape, self.count)
     }
 
+    /// Whether the archive is held to a ratio here.
+    pub fn has_limit(&self) -> bool {
+        *self != CROWDED
+    }
+
     pub fn name(&self) -> String {
         format!("{}, table {}, {} mappings", self.workload.name(), self.shape.name(), self.count)
     }
 }
 
+/// The row that is stated and has no limit: what many reserved ranges and a full table out of order cost the check.
+const CROWDED: Cell = Cell { shape: Shape::Crowded, workload: Workload::Early, count: COUNTS[COUNTS.len() - 1] };
+
 /// In the order of the tables.
 pub fn cells(workloads: &[Workload]) -> Vec<Cell> {
     let rows = |shape| workloads.iter().flat_map(move |&workload| COUNTS.map(|count| Cell { shape, workload, count }));
-    Shape::ALL.into_iter().flat_map(rows).collect()
+    let crowded = workloads.contains(&CROWDED.workload).then_some(CROWDED);
+    Shape::ALL.into_iter().flat_map(rows).chain(crowded).collect()
 }

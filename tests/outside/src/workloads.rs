@@ -24,6 +24,8 @@ pub enum Shape {
     Ascending,
     /// Two spaces more, one with a device, and a loose device; a long history of MAP and UNMAP has left the records in a random order.
     Worn,
+    /// One space with as many reserved ranges as there are gaps between most of its mappings; the records stand in a random order.
+    Crowded,
 }
 
 #[derive(Clone, Copy, Debug, PartialEq, Eq)]
@@ -37,12 +39,14 @@ pub enum Workload {
 }
 
 impl Shape {
+    /// Those that every workload is measured on.
     pub const ALL: [Shape; 2] = [Shape::Ascending, Shape::Worn];
 
     pub fn name(self) -> &'static str {
         match self {
             Shape::Ascending => "ascending",
             Shape::Worn => "worn",
+            Shape::Crowded => "crowded",
         }
     }
 
@@ -54,6 +58,9 @@ impl Shape {
             }
             Shape::Worn => {
                 "two spaces and two devices more, a quarter of the mappings in those spaces, records in a random order after a long history of MAP and UNMAP"
+            }
+            Shape::Crowded => {
+                "one space with 29 attached devices of four reserved ranges each, all 116 in gaps between the mappings, records in a random order; it has no limit"
             }
         }
     }
@@ -179,14 +186,25 @@ fn table(shape: Shape, count: usize) -> Lent {
     let mut lent = Lent::zeroed();
     must(&mut lent, Call::Fresh { limit: 1 << 36 });
     space(&mut lent);
-    bind(&mut lent, 0x1000, &[RESERVED]);
-    must(&mut lent, Call::Attach { device: DEVICE, space: SPACE });
     match shape {
-        Shape::Ascending => (0..count).for_each(|slot| must(&mut lent, map_slot(SPACE, slot))),
-        Shape::Worn => wear(&mut lent, count),
+        Shape::Ascending => {
+            device(&mut lent, DEVICE, &[RESERVED]);
+            (0..count).for_each(|slot| must(&mut lent, map_slot(SPACE, slot)));
+        }
+        Shape::Worn => {
+            device(&mut lent, DEVICE, &[RESERVED]);
+            wear(&mut lent, count);
+        }
+        Shape::Crowded => crowd(&mut lent, count),
     }
     assert_eq!(lent.mappings.iter().filter(|m| **m != Mapping::default()).count(), count);
     lent
+}
+
+/// The device that gets this id, attached to the first space.
+fn device(lent: &mut Lent, id: u32, ranges: &[(u64, u64)]) {
+    bind(lent, 0x1000, ranges);
+    must(lent, Call::Attach { device: id, space: SPACE });
 }
 
 fn address(slot: usize) -> u64 {
@@ -195,6 +213,20 @@ fn address(slot: usize) -> u64 {
 
 fn map_slot(space: u32, slot: usize) -> Call {
     map(space, FIXED, 0x10_0000 * (1 + slot as u64), address(slot))
+}
+
+/// Objects 2 to 30 are devices, of which each reserves the gaps behind four slots.
+fn crowd(lent: &mut Lent, count: usize) {
+    let gap = |slot| (address(slot) + LENGTH, address(slot + 1) - 1);
+    for k in 0..29 {
+        device(lent, DEVICE + k as u32, &[4 * k, 4 * k + 1, 4 * k + 2, 4 * k + 3].map(gap));
+    }
+    let mut random = Random::new();
+    let mut slots: Vec<usize> = (0..count).collect();
+    while !slots.is_empty() {
+        let slot = slots.swap_remove(random.below(slots.len()));
+        must(lent, map_slot(SPACE, slot));
+    }
 }
 
 /// Objects 3 to 6: a space with a device, a space without, a loose device.
@@ -218,7 +250,7 @@ fn home(slot: usize, count: usize) -> (u32, usize) {
 
 /// Slots are mapped and unmapped at random, then all that are missing are mapped in a random order.
 fn history(lent: &mut Lent, count: usize) {
-    let mut random = Random(0x9E37_79B9_7F4A_7C15);
+    let mut random = Random::new();
     let mut mapped = vec![false; count];
     let mut turn = |slot: usize, mapped: &mut Vec<bool>| {
         let (space, place) = home(slot, count);
@@ -240,6 +272,10 @@ fn history(lent: &mut Lent, count: usize) {
 struct Random(u64);
 
 impl Random {
+    fn new() -> Random {
+        Random(0x9E37_79B9_7F4A_7C15)
+    }
+
     fn below(&mut self, end: usize) -> usize {
         self.0 ^= self.0 << 13;
         self.0 ^= self.0 >> 7;

@@ -1,16 +1,11 @@
 -- The numbers, the source, the place or the records refused, or the copy is made.
-use Rattle.scan.specs.Surveyed.{records-numbered}
-use Rattle.cmd_map.specs.Sites.{known-is, second-is}
-use Rattle.cmd_copy.proofs.Copying.{by-numbers, by-source, by-place, by-records, by-copying}
+use Rattle.rules_table.specs.Words.{objectsIn}
+use Rattle.layout_mappings.specs.Words.{recordsOf}
+use Rattle.table.specs.Paged.{page-known, page-aligned}
+use Rattle.cmd_copy.proofs.Copying.{numbers-known, by-numbers, by-source, by-place, by-records, by-copying}
 use borrow.Author.Needs.{needs}
 use Rattle.cmd_copy.proofs.decide_copy.Statement.{statement}
 use Rattle.cmd_copy.proofs.decide_copy.Tie as tie
-
-is-space-requires : tie.Need-is-space-requires
-is-space-requires c κs = search needs
-
-is-space-requires-2 : tie.Need-is-space-requires-2
-is-space-requires-2 c κs = search needs
 
 copy-number-errno-requires : tie.Need-copy-number-errno-requires
 copy-number-errno-requires c κs = search needs
@@ -19,7 +14,7 @@ refusal-requires : tie.Need-refusal-requires
 refusal-requires c κs = search needs
 
 returns : tie.Need-returns
-returns c = λ os h. by-numbers os _ (c .before .before .before .before .before .before .before .args .t) _ _ _ _ (c .before .before .copy-number-errno .ensures os (c .before .before .before .before .before .before .before .args .source) (known-is os (c .before .before .before .before .before .before .before .args .ms) (c .before .before .before .before .before .before .before .args .t) (c .before .before .before .before .before .before .before .args .source) (c .before .before .before .before .before .before .before .args .d) h _ (c .before .before .before .before .is-space .ensures)) (second-is os (c .before .before .before .before .before .before .before .args .ms) (c .before .before .before .before .before .before .before .args .t) (c .before .before .before .before .before .before .before .args .source) (c .before .before .before .before .before .before .before .args .d) h _ (c .before .before .before .is-space2 .ensures))) (c .before .if1 .taken) (c .refusal .ensures)
+returns c = λ ea eb. let a = (c .before .before .before .args) in let os = objectsIn (a .h .now) in let ms = recordsOf (a .ws .now) in by-numbers os ms (a .t) (a .source) (a .«from») _ _ ((c .before .before .copy-number-errno .ensures) os (a .source) (page-known os (a .t .space) (a .a) ea) (page-known os (a .source) (a .b) eb)) (c .before .if1 .taken) (c .refusal .ensures)
 
 find-mapping-requires : tie.Need-find-mapping-requires
 find-mapping-requires c κs = search needs
@@ -31,7 +26,7 @@ refusal-requires-2 : tie.Need-refusal-requires-2
 refusal-requires-2 c κs = search needs
 
 returns-2 : tie.Need-returns-2
-returns-2 c = λ os h. by-source os _ (c .before .before .before .before .before .before .before .before .before .before .args .t) _ _ _ (c .before .before .before .before .before .copy-number-errno .ensures os (c .before .before .before .before .before .before .before .before .before .before .args .source) (known-is os (c .before .before .before .before .before .before .before .before .before .before .args .ms) (c .before .before .before .before .before .before .before .before .before .before .args .t) (c .before .before .before .before .before .before .before .before .before .before .args .source) (c .before .before .before .before .before .before .before .before .before .before .args .d) h _ (c .before .before .before .before .before .before .before .is-space .ensures)) (second-is os (c .before .before .before .before .before .before .before .before .before .before .args .ms) (c .before .before .before .before .before .before .before .before .before .before .args .t) (c .before .before .before .before .before .before .before .before .before .before .args .source) (c .before .before .before .before .before .before .before .before .before .before .args .d) h _ (c .before .before .before .before .before .before .is-space2 .ensures))) (c .before .before .before .before .if1 .left) _ (c .before .before .before .find-mapping .ensures) _ (c .before .before .source-errno .ensures) _ (c .before .if2 .taken) (c .refusal2 .ensures)
+returns-2 c = λ ea eb. let a = (c .before .before .before .before .before .before .args) in let os = objectsIn (a .h .now) in let ms = recordsOf (a .ws .now) in by-source os ms (a .t) (a .source) (a .«from») _ ((c .before .before .before .before .before .copy-number-errno .ensures) os (a .source) (page-known os (a .t .space) (a .a) ea) (page-known os (a .source) (a .b) eb)) (c .before .before .before .before .if1 .left) _ (c .before .before .before .find-mapping .ensures) _ (c .before .before .source-errno .ensures) _ (c .before .if2 .taken) (c .refusal2 .ensures)
 
 place-in-requires : tie.Need-place-in-requires
 place-in-requires c κs = search needs
@@ -40,10 +35,10 @@ refusal-requires-3 : tie.Need-refusal-requires-3
 refusal-requires-3 c κs = search needs
 
 returns-3 : tie.Need-returns-3
-returns-3 c = λ os h. by-place os _ (c .before .before .before .before .before .before .before .before .before .before .before .before .before .args .t) _ _ _ (c .before .before .before .before .before .before .before .before .copy-number-errno .ensures os (c .before .before .before .before .before .before .before .before .before .before .before .before .before .args .source) (known-is os (c .before .before .before .before .before .before .before .before .before .before .before .before .before .args .ms) (c .before .before .before .before .before .before .before .before .before .before .before .before .before .args .t) (c .before .before .before .before .before .before .before .before .before .before .before .before .before .args .source) (c .before .before .before .before .before .before .before .before .before .before .before .before .before .args .d) h _ (c .before .before .before .before .before .before .before .before .before .before .is-space .ensures)) (second-is os (c .before .before .before .before .before .before .before .before .before .before .before .before .before .args .ms) (c .before .before .before .before .before .before .before .before .before .before .before .before .before .args .t) (c .before .before .before .before .before .before .before .before .before .before .before .before .before .args .source) (c .before .before .before .before .before .before .before .before .before .before .before .before .before .args .d) h _ (c .before .before .before .before .before .before .before .before .before .is-space2 .ensures))) (c .before .before .before .before .before .before .before .if1 .left) _ (c .before .before .before .before .before .before .find-mapping .ensures) _ (c .before .before .before .before .before .source-errno .ensures) (c .before .before .before .before .if2 .left) _ (c .before .before .before .place-in .ensures os _ h) _ (c .before .if3 .taken) (c .refusal3 .ensures)
+returns-3 c = λ ea eb. let a = (c .before .before .before .before .before .before .before .before .before .args) in let os = objectsIn (a .h .now) in let ms = recordsOf (a .ws .now) in by-place os ms (a .t) (a .source) (a .«from») _ ((c .before .before .before .before .before .before .before .before .copy-number-errno .ensures) os (a .source) (page-known os (a .t .space) (a .a) ea) (page-known os (a .source) (a .b) eb)) (c .before .before .before .before .before .before .before .if1 .left) _ (c .before .before .before .before .before .before .find-mapping .ensures) _ (c .before .before .before .before .before .source-errno .ensures) (c .before .before .before .before .if2 .left) _ ((c .before .before .before .place-in .ensures) (page-aligned os (a .t .space) (a .a) ea (numbers-known os ms (a .t) (a .source) (a .«from») _ ((c .before .before .before .before .before .before .before .before .copy-number-errno .ensures) os (a .source) (page-known os (a .t .space) (a .a) ea) (page-known os (a .source) (a .b) eb)) (c .before .before .before .before .before .before .before .if1 .left)))) _ (c .before .if3 .taken) (c .refusal3 .ensures)
 
-survey-of-requires : tie.Need-survey-of-requires
-survey-of-requires c κs = records-numbered (c .before .before .before .before .before .before .before .before .before .before .before .before .pre .0) _ (c .before .before .before .before .before .before .before .before .before .before .before .before .pre .1)
+free-record-requires : tie.Need-free-record-requires
+free-record-requires c κs = search needs
 
 record-errno-requires : tie.Need-record-errno-requires
 record-errno-requires c κs = search needs
@@ -52,7 +47,7 @@ refusal-requires-4 : tie.Need-refusal-requires-4
 refusal-requires-4 c κs = search needs
 
 returns-4 : tie.Need-returns-4
-returns-4 c = λ os h. by-records os _ (c .before .before .before .before .before .before .before .before .before .before .before .before .before .before .before .before .args .t) _ _ _ (c .before .before .before .before .before .before .before .before .before .before .before .copy-number-errno .ensures os (c .before .before .before .before .before .before .before .before .before .before .before .before .before .before .before .before .args .source) (known-is os (c .before .before .before .before .before .before .before .before .before .before .before .before .before .before .before .before .args .ms) (c .before .before .before .before .before .before .before .before .before .before .before .before .before .before .before .before .args .t) (c .before .before .before .before .before .before .before .before .before .before .before .before .before .before .before .before .args .source) (c .before .before .before .before .before .before .before .before .before .before .before .before .before .before .before .before .args .d) h _ (c .before .before .before .before .before .before .before .before .before .before .before .before .before .is-space .ensures)) (second-is os (c .before .before .before .before .before .before .before .before .before .before .before .before .before .before .before .before .args .ms) (c .before .before .before .before .before .before .before .before .before .before .before .before .before .before .before .before .args .t) (c .before .before .before .before .before .before .before .before .before .before .before .before .before .before .before .before .args .source) (c .before .before .before .before .before .before .before .before .before .before .before .before .before .before .before .before .args .d) h _ (c .before .before .before .before .before .before .before .before .before .before .before .before .is-space2 .ensures))) (c .before .before .before .before .before .before .before .before .before .before .if1 .left) _ (c .before .before .before .before .before .before .before .before .before .find-mapping .ensures) _ (c .before .before .before .before .before .before .before .before .source-errno .ensures) (c .before .before .before .before .before .before .before .if2 .left) _ (c .before .before .before .before .before .before .place-in .ensures os _ h) (c .before .before .before .before .if3 .left) _ (c .before .before .before .survey-of .ensures) _ (c .before .before .record-errno .ensures) _ (c .before .if4 .taken) (c .refusal4 .ensures)
+returns-4 c = λ ea eb. let a = (c .before .before .before .before .before .before .before .before .before .before .before .before .args) in let os = objectsIn (a .h .now) in let ms = recordsOf (a .ws .now) in by-records os ms (a .t) (a .source) (a .«from») _ ((c .before .before .before .before .before .before .before .before .before .before .before .copy-number-errno .ensures) os (a .source) (page-known os (a .t .space) (a .a) ea) (page-known os (a .source) (a .b) eb)) (c .before .before .before .before .before .before .before .before .before .before .if1 .left) _ (c .before .before .before .before .before .before .before .before .before .find-mapping .ensures) _ (c .before .before .before .before .before .before .before .before .source-errno .ensures) (c .before .before .before .before .before .before .before .if2 .left) _ ((c .before .before .before .before .before .before .place-in .ensures) (page-aligned os (a .t .space) (a .a) ea (numbers-known os ms (a .t) (a .source) (a .«from») _ ((c .before .before .before .before .before .before .before .before .before .before .before .copy-number-errno .ensures) os (a .source) (page-known os (a .t .space) (a .a) ea) (page-known os (a .source) (a .b) eb)) (c .before .before .before .before .before .before .before .before .before .before .if1 .left)))) (c .before .before .before .before .if3 .left) _ (c .before .before .before .free-record .ensures) _ (c .before .before .record-errno .ensures) _ (c .before .if4 .taken) (c .refusal4 .ensures)
 
 source-mapping-requires : tie.Need-source-mapping-requires
 source-mapping-requires c κs = search needs
@@ -64,14 +59,12 @@ put-new-requires : tie.Need-put-new-requires
 put-new-requires c κs = search needs
 
 returns-5 : tie.Need-returns-5
-returns-5 c = λ os h. by-copying os _ (c .before .before .before .before .before .before .before .before .before .before .before .before .before .before .before .before .before .before .args .t) _ _ _ (c .before .before .before .before .before .before .before .before .before .before .before .before .before .copy-number-errno .ensures os (c .before .before .before .before .before .before .before .before .before .before .before .before .before .before .before .before .before .before .args .source) (known-is os (c .before .before .before .before .before .before .before .before .before .before .before .before .before .before .before .before .before .before .args .ms) (c .before .before .before .before .before .before .before .before .before .before .before .before .before .before .before .before .before .before .args .t) (c .before .before .before .before .before .before .before .before .before .before .before .before .before .before .before .before .before .before .args .source) (c .before .before .before .before .before .before .before .before .before .before .before .before .before .before .before .before .before .before .args .d) h _ (c .before .before .before .before .before .before .before .before .before .before .before .before .before .before .before .is-space .ensures)) (second-is os (c .before .before .before .before .before .before .before .before .before .before .before .before .before .before .before .before .before .before .args .ms) (c .before .before .before .before .before .before .before .before .before .before .before .before .before .before .before .before .before .before .args .t) (c .before .before .before .before .before .before .before .before .before .before .before .before .before .before .before .before .before .before .args .source) (c .before .before .before .before .before .before .before .before .before .before .before .before .before .before .before .before .before .before .args .d) h _ (c .before .before .before .before .before .before .before .before .before .before .before .before .before .before .is-space2 .ensures))) (c .before .before .before .before .before .before .before .before .before .before .before .before .if1 .left) _ (c .before .before .before .before .before .before .before .before .before .before .before .find-mapping .ensures) _ (c .before .before .before .before .before .before .before .before .before .before .source-errno .ensures) (c .before .before .before .before .before .before .before .before .before .if2 .left) _ (c .before .before .before .before .before .before .before .before .place-in .ensures os _ h) (c .before .before .before .before .before .before .if3 .left) _ (c .before .before .before .before .before .survey-of .ensures) _ (c .before .before .before .before .record-errno .ensures) _ _ _ (c .before .before .before .if4 .left) (c .before .before .source-mapping .ensures) (c .before .copied .ensures) (c .put-new .ensures)
+returns-5 c = λ ea eb. let a = (c .before .before .before .before .before .before .before .before .before .before .before .before .before .before .args) in let os = objectsIn (a .h .now) in let ms = recordsOf (a .ws .now) in by-copying os ms (a .t) (a .source) (a .«from») _ ((c .before .before .before .before .before .before .before .before .before .before .before .before .before .copy-number-errno .ensures) os (a .source) (page-known os (a .t .space) (a .a) ea) (page-known os (a .source) (a .b) eb)) (c .before .before .before .before .before .before .before .before .before .before .before .before .if1 .left) _ (c .before .before .before .before .before .before .before .before .before .before .before .find-mapping .ensures) _ (c .before .before .before .before .before .before .before .before .before .before .source-errno .ensures) (c .before .before .before .before .before .before .before .before .before .if2 .left) _ ((c .before .before .before .before .before .before .before .before .place-in .ensures) (page-aligned os (a .t .space) (a .a) ea (numbers-known os ms (a .t) (a .source) (a .«from») _ ((c .before .before .before .before .before .before .before .before .before .before .before .before .before .copy-number-errno .ensures) os (a .source) (page-known os (a .t .space) (a .a) ea) (page-known os (a .source) (a .b) eb)) (c .before .before .before .before .before .before .before .before .before .before .before .before .if1 .left)))) (c .before .before .before .before .before .before .if3 .left) _ (c .before .before .before .before .before .free-record .ensures) _ (c .before .before .before .before .record-errno .ensures) _ _ _ (c .before .before .before .if4 .left) (c .before .before .source-mapping .ensures) (c .before .copied .ensures) (c .put-new .ensures)
 
 pub decide-copy-spec : {M : Type 1} → statement M
 decide-copy-spec =
     tie.close
     (tie.spec
-    is-space-requires
-    is-space-requires-2
     copy-number-errno-requires
     refusal-requires
     returns
@@ -82,7 +75,7 @@ decide-copy-spec =
     place-in-requires
     refusal-requires-3
     returns-3
-    survey-of-requires
+    free-record-requires
     record-errno-requires
     refusal-requires-4
     returns-4

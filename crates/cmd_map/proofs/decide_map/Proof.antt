@@ -1,14 +1,12 @@
 -- The numbers, the place or the room refused, or the mapping is made.
-use Rattle.scan.specs.Surveyed.{records-numbered}
-use Rattle.cmd_map.specs.Sites.{known-is}
-use Rattle.cmd_map.proofs.Deciding.{by-numbers, by-place, by-room, by-making}
+use Rattle.rules_table.specs.Words.{headIn, objectsIn}
+use Rattle.layout_mappings.specs.Words.{recordsOf}
+use Rattle.table.specs.Paged.{page-known, page-aligned}
+use Rattle.cmd_map.proofs.Deciding.{numbers-known, by-numbers, by-place, by-room, by-making}
 use Rattle.cmd_map.proofs.Making.{backing-fits}
 use borrow.Author.Needs.{needs}
 use Rattle.cmd_map.proofs.decide_map.Statement.{statement}
 use Rattle.cmd_map.proofs.decide_map.Tie as tie
-
-is-space-requires : tie.Need-is-space-requires
-is-space-requires c κs = search needs
 
 map-number-errno-requires : tie.Need-map-number-errno-requires
 map-number-errno-requires c κs = search needs
@@ -17,7 +15,7 @@ refusal-requires : tie.Need-refusal-requires
 refusal-requires c κs = search needs
 
 returns : tie.Need-returns
-returns c = λ os b h. by-numbers _ os _ (c .before .before .before .before .before .args .t) _ _ _ _ (c .before .before .map-number-errno .ensures os (known-is os (c .before .before .before .before .before .args .ms) (c .before .before .before .before .before .args .t) b (c .before .before .before .before .before .args .d) h _ (c .before .before .before .is-space .ensures))) (c .before .if1 .taken) (c .refusal .ensures)
+returns c = λ e. let a = (c .before .before .before .before .args) in let os = objectsIn (a .h .now) in let ms = recordsOf (a .ws .now) in by-numbers (headIn (a .h .now) .limit) os ms (a .t) (a .zero) (a .memory) _ _ ((c .before .before .map-number-errno .ensures) os (page-known os (a .t .space) (a .a) e)) ((c .before .if1 .taken)) ((c .refusal .ensures))
 
 place-in-requires : tie.Need-place-in-requires
 place-in-requires c κs = search needs
@@ -26,10 +24,13 @@ refusal-requires-2 : tie.Need-refusal-requires-2
 refusal-requires-2 c κs = search needs
 
 returns-2 : tie.Need-returns-2
-returns-2 c = λ os b h. by-place _ os _ (c .before .before .before .before .before .before .before .before .args .t) _ _ _ (c .before .before .before .before .before .map-number-errno .ensures os (known-is os (c .before .before .before .before .before .before .before .before .args .ms) (c .before .before .before .before .before .before .before .before .args .t) b (c .before .before .before .before .before .before .before .before .args .d) h _ (c .before .before .before .before .before .before .is-space .ensures))) (c .before .before .before .before .if1 .left) _ (c .before .before .before .place-in .ensures os b h) _ (c .before .if2 .taken) (c .refusal2 .ensures)
+returns-2 c = λ e. let a = (c .before .before .before .before .before .before .before .args) in let os = objectsIn (a .h .now) in let ms = recordsOf (a .ws .now) in by-place (headIn (a .h .now) .limit) os ms (a .t) (a .zero) (a .memory) _ ((c .before .before .before .before .before .map-number-errno .ensures) os (page-known os (a .t .space) (a .a) e)) ((c .before .before .before .before .if1 .left)) _ ((c .before .before .before .place-in .ensures) (page-aligned os (a .t .space) (a .a) e (numbers-known (headIn (a .h .now) .limit) os ms (a .t) (a .zero) (a .memory) _ ((c .before .before .before .before .before .map-number-errno .ensures) os (page-known os (a .t .space) (a .a) e)) (c .before .before .before .before .if1 .left)))) _ ((c .before .if2 .taken)) ((c .refusal2 .ensures))
 
 survey-of-requires : tie.Need-survey-of-requires
-survey-of-requires c κs = records-numbered (c .before .before .before .before .before .before .before .pre .0) _ (c .before .before .before .before .before .before .before .pre .1)
+survey-of-requires c κs = search needs
+
+limit-of-requires : tie.Need-limit-of-requires
+limit-of-requires c κs = search needs
 
 pages-touched-requires : tie.Need-pages-touched-requires
 pages-touched-requires c κs = search needs
@@ -41,10 +42,10 @@ refusal-requires-3 : tie.Need-refusal-requires-3
 refusal-requires-3 c κs = search needs
 
 returns-3 : tie.Need-returns-3
-returns-3 c = λ os b h. by-room _ os _ (c .before .before .before .before .before .before .before .before .before .before .before .before .args .t) _ _ _ (c .before .before .before .before .before .before .before .before .before .map-number-errno .ensures os (known-is os (c .before .before .before .before .before .before .before .before .before .before .before .before .args .ms) (c .before .before .before .before .before .before .before .before .before .before .before .before .args .t) b (c .before .before .before .before .before .before .before .before .before .before .before .before .args .d) h _ (c .before .before .before .before .before .before .before .before .before .before .is-space .ensures))) (c .before .before .before .before .before .before .before .before .if1 .left) _ (c .before .before .before .before .before .before .before .place-in .ensures os b h) (c .before .before .before .before .before .if2 .left) _ (c .before .before .before .before .survey-of .ensures) _ _ (c .before .before .before .pages-touched .ensures .0) (c .before .before .room-errno .ensures) _ (c .before .if3 .taken) (c .refusal3 .ensures)
+returns-3 c = λ e. let a = (c .before .before .before .before .before .before .before .before .before .before .before .before .args) in let os = objectsIn (a .h .now) in let ms = recordsOf (a .ws .now) in by-room (headIn (a .h .now) .limit) os ms (a .t) (a .zero) (a .memory) _ ((c .before .before .before .before .before .before .before .before .before .before .map-number-errno .ensures) os (page-known os (a .t .space) (a .a) e)) ((c .before .before .before .before .before .before .before .before .before .if1 .left)) _ ((c .before .before .before .before .before .before .before .before .place-in .ensures) (page-aligned os (a .t .space) (a .a) e (numbers-known (headIn (a .h .now) .limit) os ms (a .t) (a .zero) (a .memory) _ ((c .before .before .before .before .before .before .before .before .before .before .map-number-errno .ensures) os (page-known os (a .t .space) (a .a) e)) (c .before .before .before .before .before .before .before .before .before .if1 .left)))) ((c .before .before .before .before .before .before .if2 .left)) _ ((c .before .before .before .before .before .survey-of .ensures) ((c .before .before .before .before .before .before .before .before .before .before .before .before .pre) .3 .0) ((c .before .before .before .before .before .before .before .before .before .before .before .before .pre) .3 .1) ((c .before .before .before .before .before .before .before .before .before .before .before .before .pre) .2)) _ _ _ ((c .before .before .before .before .limit-of .ensures)) ((c .before .before .before .pages-touched .ensures .0)) ((c .before .before .room-errno .ensures)) _ ((c .before .if3 .taken)) ((c .refusal3 .ensures))
 
 number-in-requires : tie.Need-number-in-requires
-number-in-requires c κs = backing-fits _ _ (c .before .before .before .survey-of .ensures)
+number-in-requires c κs = let a = (c .before .before .before .before .before .before .before .before .before .before .before .args) in let ms = recordsOf (a .ws .now) in backing-fits ms _ ((c .before .before .before .before .survey-of .ensures) ((c .before .before .before .before .before .before .before .before .before .before .before .pre) .3 .0) ((c .before .before .before .before .before .before .before .before .before .before .before .pre) .3 .1) ((c .before .before .before .before .before .before .before .before .before .before .before .pre) .2))
 
 founded-requires : tie.Need-founded-requires
 founded-requires c κs = search needs
@@ -53,13 +54,12 @@ put-new-requires : tie.Need-put-new-requires
 put-new-requires c κs = search needs
 
 returns-4 : tie.Need-returns-4
-returns-4 c = λ os b h. by-making _ os _ (c .before .before .before .before .before .before .before .before .before .before .before .before .before .before .args .t) _ _ _ (c .before .before .before .before .before .before .before .before .before .before .before .map-number-errno .ensures os (known-is os (c .before .before .before .before .before .before .before .before .before .before .before .before .before .before .args .ms) (c .before .before .before .before .before .before .before .before .before .before .before .before .before .before .args .t) b (c .before .before .before .before .before .before .before .before .before .before .before .before .before .before .args .d) h _ (c .before .before .before .before .before .before .before .before .before .before .before .before .is-space .ensures))) (c .before .before .before .before .before .before .before .before .before .before .if1 .left) _ (c .before .before .before .before .before .before .before .before .before .place-in .ensures os b h) (c .before .before .before .before .before .before .before .if2 .left) _ (c .before .before .before .before .before .before .survey-of .ensures) _ _ (c .before .before .before .before .before .pages-touched .ensures .0) (c .before .before .before .before .room-errno .ensures) _ _ _ (c .before .before .before .if3 .left) (c .before .before .number-in .ensures) (c .before .founded .ensures) (c .put-new .ensures)
+returns-4 c = λ e. let a = (c .before .before .before .before .before .before .before .before .before .before .before .before .before .before .args) in let os = objectsIn (a .h .now) in let ms = recordsOf (a .ws .now) in by-making (headIn (a .h .now) .limit) os ms (a .t) (a .zero) (a .memory) _ ((c .before .before .before .before .before .before .before .before .before .before .before .before .map-number-errno .ensures) os (page-known os (a .t .space) (a .a) e)) ((c .before .before .before .before .before .before .before .before .before .before .before .if1 .left)) _ ((c .before .before .before .before .before .before .before .before .before .before .place-in .ensures) (page-aligned os (a .t .space) (a .a) e (numbers-known (headIn (a .h .now) .limit) os ms (a .t) (a .zero) (a .memory) _ ((c .before .before .before .before .before .before .before .before .before .before .before .before .map-number-errno .ensures) os (page-known os (a .t .space) (a .a) e)) (c .before .before .before .before .before .before .before .before .before .before .before .if1 .left)))) ((c .before .before .before .before .before .before .before .before .if2 .left)) _ ((c .before .before .before .before .before .before .before .survey-of .ensures) ((c .before .before .before .before .before .before .before .before .before .before .before .before .before .before .pre) .3 .0) ((c .before .before .before .before .before .before .before .before .before .before .before .before .before .before .pre) .3 .1) ((c .before .before .before .before .before .before .before .before .before .before .before .before .before .before .pre) .2)) _ _ _ ((c .before .before .before .before .before .before .limit-of .ensures)) ((c .before .before .before .before .before .pages-touched .ensures .0)) ((c .before .before .before .before .room-errno .ensures)) _ _ _ ((c .before .before .before .if3 .left)) ((c .before .before .number-in .ensures)) ((c .before .founded .ensures)) ((c .put-new .ensures))
 
 pub decide-map-spec : {M : Type 1} → statement M
 decide-map-spec =
     tie.close
     (tie.spec
-    is-space-requires
     map-number-errno-requires
     refusal-requires
     returns
@@ -67,6 +67,7 @@ decide-map-spec =
     refusal-requires-2
     returns-2
     survey-of-requires
+    limit-of-requires
     pages-touched-requires
     room-errno-requires
     refusal-requires-3

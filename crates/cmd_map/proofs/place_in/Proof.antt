@@ -1,6 +1,12 @@
--- The place, by what the digest tells.
-use mathlib.Core.Path.{sym, _∙_}
-use Rattle.cmd_map.specs.Sites.{reserved-is, allow-is, blocked-is}
+-- The place: what a fixed range touches, or the lowest candidate.
+use mathlib.Core.Path.{sym, ap, _∙_}
+use Rattle.lists.specs.Search.{any}
+use Rattle.ranges.specs.declared.Range.{Range}
+use Rattle.ranges.specs.Ranges.{share}
+use Rattle.rules_table.specs.declared.Object.{Object}
+use Rattle.rules_table.specs.Spaces.{reservedOf}
+use Rattle.rules_table.specs.Words.{objectsIn}
+use Rattle.layout_mappings.specs.Words.{recordsOf}
 use Rattle.cmd_map.proofs.Staging.{touched-is}
 use borrow.Author.Needs.{needs}
 use Rattle.cmd_map.proofs.place_in.Statement.{statement}
@@ -12,8 +18,8 @@ is-fixed-requires c κs = search needs
 span-of-requires : tie.Need-span-of-requires
 span-of-requires c κs = search needs
 
-is-blocked-requires : tie.Need-is-blocked-requires
-is-blocked-requires c κs = search needs
+is-touched-requires : tie.Need-is-touched-requires
+is-touched-requires c κs = search needs
 
 is-taken-requires : tie.Need-is-taken-requires
 is-taken-requires c κs = search needs
@@ -22,16 +28,16 @@ place-fixed-requires : tie.Need-place-fixed-requires
 place-fixed-requires c κs = search needs
 
 returns : tie.Need-returns
-returns c = λ os b h. c .place-fixed .ensures os (c .before .before .before .before .before .before .before .args .ms) (sym (c .before .before .before .before .before .is-fixed .ensures) ∙ c .before .before .before .before .if1 .taken) (h .alignment) (reserved-is os (c .before .before .before .before .before .before .before .args .ms) (c .before .before .before .before .before .before .before .args .t) b (c .before .before .before .before .before .before .before .args .d) h _ _ (c .before .before .before .span-of .ensures) (c .before .before .is-blocked .ensures)) (touched-is (c .before .before .before .before .before .before .before .args .ms) _ _ _ _ _ (c .before .before .before .span-of .ensures) (c .before .is-taken .ensures))
+returns c = λ e. let a = (c .before .before .before .before .before .before .args) in let os = objectsIn (a .h .now) in let ms = recordsOf (a .ws .now) in ((c .place-fixed .ensures)) os ms (sym ((c .before .before .before .before .before .is-fixed .ensures)) ∙ (c .before .before .before .before .if1 .taken)) e (((c .before .before .is-touched .ensures)) ∙ ap (λ (r : Range). any (share r) (reservedOf os (a .t .space))) ((c .before .before .before .span-of .ensures))) (touched-is ms _ _ _ _ _ ((c .before .before .before .span-of .ensures)) (c .before .is-taken .ensures))
 
-blocked-in-requires : tie.Need-blocked-in-requires
-blocked-in-requires c κs = search needs
+object-of-requires : tie.Need-object-of-requires
+object-of-requires c κs = search needs
 
 place-automatic-requires : tie.Need-place-automatic-requires
 place-automatic-requires c κs = search needs
 
 returns-2 : tie.Need-returns-2
-returns-2 c = λ os b h. c .place-automatic .ensures os (c .before .before .before .before .before .before .before .args .ms) (sym (c .before .before .before .before .before .is-fixed .ensures) ∙ c .before .before .before .before .if1 .left) (h .alignment) (allow-is os (c .before .before .before .before .before .before .before .args .ms) (c .before .before .before .before .before .before .before .args .t) b (c .before .before .before .before .before .before .before .args .d) h) (blocked-is os (c .before .before .before .before .before .before .before .args .ms) (c .before .before .before .before .before .before .before .args .t) b (c .before .before .before .before .before .before .before .args .d) h _ (c .before .blocked-in .ensures))
+returns-2 c = λ e. ((c .place-automatic .ensures)) (sym ((c .before .before .before .before .is-fixed .ensures)) ∙ (c .before .before .before .if1 .left)) e (ap (λ (o : Object). o .allow) (c .before .before .object-of .ensures))
 
 pub place-in-spec : {M : Type 1} → statement M
 place-in-spec =
@@ -39,10 +45,10 @@ place-in-spec =
     (tie.spec
     is-fixed-requires
     span-of-requires
-    is-blocked-requires
+    is-touched-requires
     is-taken-requires
     place-fixed-requires
     returns
-    blocked-in-requires
+    object-of-requires
     place-automatic-requires
     returns-2)

@@ -1,5 +1,8 @@
 -- The fields read, decided and replied.
-use Rattle.cmd_map_bytes.proofs.Deciding.{seen-at, copy-fields}
+use mathlib.Core.Path.{sym, ap, _∙_}
+use Rattle.table.specs.Checked.{pageAt}
+use Rattle.rules_table.specs.Words.{objectsIn}
+use Rattle.cmd_map_bytes.proofs.Deciding.{copy-fields}
 use borrow.Author.Needs.{needs}
 use Rattle.cmd_map_bytes.proofs.copy.Statement.{statement}
 use Rattle.cmd_map_bytes.proofs.copy.Tie as tie
@@ -32,7 +35,7 @@ same-length : tie.Need-same-length
 same-length c = search needs
 
 returns : tie.Need-returns
-returns c = (λ os h. copy-fields os _ _ _ _ _ _ _ _ _ (c .before .before .before .before .before .before .before .before .before .before .before .before .before .before .before .read32 .ensures) (c .before .before .before .before .before .before .before .before .before .before .before .before .before .read322 .ensures) (c .before .before .before .before .before .before .before .before .before .before .before .read64 .ensures) (c .before .before .before .before .before .before .before .before .before .read642 .ensures) (c .before .before .before .before .before .before .before .read323 .ensures) (c .before .before .before .before .before .read643 .ensures) (c .before .before .before .before .decide-copy .ensures os (seen-at os _ _ _ _ _ (c .before .before .before .before .before .before .before .before .before .before .before .before .before .before .before .read32 .ensures) (c .before .before .before .before .before .before .before .read323 .ensures) h)), c .before .before .write-value .ensures)
+returns c = (λ e f. copy-fields _ _ _ _ _ _ _ _ _ _ (c .before .before .before .before .before .before .before .before .before .before .before .before .before .before .before .read32 .ensures) (c .before .before .before .before .before .before .before .before .before .before .before .before .before .read322 .ensures) (c .before .before .before .before .before .before .before .before .before .before .before .read64 .ensures) (c .before .before .before .before .before .before .before .before .before .read642 .ensures) (c .before .before .before .before .before .before .before .read323 .ensures) (c .before .before .before .before .before .read643 .ensures) ((c .before .before .before .before .decide-copy .ensures) (e ∙ ap (pageAt (objectsIn ((c .before .before .before .before .before .before .before .before .before .before .before .before .before .before .before .before .before .before .args) .h .now))) (sym (c .before .before .before .before .before .before .before .before .before .before .before .before .before .before .before .read32 .ensures))) (f ∙ ap (pageAt (objectsIn ((c .before .before .before .before .before .before .before .before .before .before .before .before .before .before .before .before .before .before .args) .h .now))) (sym (c .before .before .before .before .before .before .before .read323 .ensures)))), (c .before .before .write-value .ensures))
 
 pub copy-spec : {M : Type 1} → statement M
 copy-spec =

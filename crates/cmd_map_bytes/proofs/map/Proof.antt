@@ -1,6 +1,8 @@
 -- The fields read, decided and replied.
-use mathlib.Core.Path.{refl}
-use Rattle.cmd_map_bytes.proofs.Deciding.{seen-at, map-fields}
+use mathlib.Core.Path.{sym, ap, _∙_}
+use Rattle.table.specs.Checked.{pageAt}
+use Rattle.rules_table.specs.Words.{objectsIn}
+use Rattle.cmd_map_bytes.proofs.Deciding.{map-fields}
 use borrow.Author.Needs.{needs}
 use Rattle.cmd_map_bytes.proofs.map.Statement.{statement}
 use Rattle.cmd_map_bytes.proofs.map.Tie as tie
@@ -33,7 +35,7 @@ same-length : tie.Need-same-length
 same-length c = search needs
 
 returns : tie.Need-returns
-returns c = (λ os b h. map-fields os _ _ _ _ _ _ _ _ _ _ (c .before .before .before .before .before .before .before .before .before .before .before .before .before .before .before .read32 .ensures) (c .before .before .before .before .before .before .before .before .before .before .before .before .before .read322 .ensures) (c .before .before .before .before .before .before .before .before .before .before .before .read64 .ensures) (c .before .before .before .before .before .before .before .before .before .read642 .ensures) (c .before .before .before .before .before .before .before .read323 .ensures) (c .before .before .before .before .before .read643 .ensures) (c .before .before .before .before .decide-map .ensures os b (seen-at os _ _ b b _ (c .before .before .before .before .before .before .before .before .before .before .before .before .before .before .before .read32 .ensures) refl h)), c .before .before .write-value .ensures)
+returns c = (λ e. map-fields _ _ _ _ _ _ _ _ _ _ _ (c .before .before .before .before .before .before .before .before .before .before .before .before .before .before .before .read32 .ensures) (c .before .before .before .before .before .before .before .before .before .before .before .before .before .read322 .ensures) (c .before .before .before .before .before .before .before .before .before .before .before .read64 .ensures) (c .before .before .before .before .before .before .before .before .before .read642 .ensures) (c .before .before .before .before .before .before .before .read323 .ensures) (c .before .before .before .before .before .read643 .ensures) ((c .before .before .before .before .decide-map .ensures) (e ∙ ap (pageAt (objectsIn ((c .before .before .before .before .before .before .before .before .before .before .before .before .before .before .before .before .before .before .before .args) .h .now))) (sym (c .before .before .before .before .before .before .before .before .before .before .before .before .before .before .before .read32 .ensures)))), (c .before .before .write-value .ensures))
 
 pub map-spec : {M : Type 1} → statement M
 map-spec =

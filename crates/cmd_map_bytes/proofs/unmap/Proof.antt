@@ -25,7 +25,7 @@ same-length : tie.Need-same-length
 same-length c = search needs
 
 returns : tie.Need-returns
-returns c = (λ os k. unmap-fields os _ _ _ _ _ _ (c .before .before .before .before .before .before .before .before .before .read32 .ensures) (c .before .before .before .before .before .before .before .read64 .ensures) (c .before .before .before .before .before .read642 .ensures) (c .before .before .before .before .decide-unmap .ensures os (k ∙ ap (spaceAt os) (sym (c .before .before .before .before .before .before .before .before .before .read32 .ensures)))), c .before .before .write-value .ensures)
+returns c = (λ os k. unmap-fields os _ _ _ _ _ _ (c .before .before .before .before .before .before .before .before .before .read32 .ensures) (c .before .before .before .before .before .before .before .read64 .ensures) (c .before .before .before .before .before .read642 .ensures) ((c .before .before .before .before .decide-unmap .ensures) os (k ∙ ap (spaceAt os) (sym (c .before .before .before .before .before .before .before .before .before .read32 .ensures)))), (c .before .before .write-value .ensures))
 
 pub unmap-spec : {M : Type 1} → statement M
 unmap-spec =

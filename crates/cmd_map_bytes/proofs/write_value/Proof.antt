@@ -1,7 +1,7 @@
 -- Written where the errno is 0.
 use native.Mathlib.Omega.{arith}
 use mathlib.Core.Path.{_∙_}
-use Rattle.tablecheck.proofs.Gating.{replied-some, replied-none}
+use Rattle.edits.specs.Gating.{replied-some, replied-none}
 use borrow.Author.Needs.{needs}
 use Rattle.cmd_map_bytes.proofs.write_value.Statement.{statement}
 use Rattle.cmd_map_bytes.proofs.write_value.Tie as tie

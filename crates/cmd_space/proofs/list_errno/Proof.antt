@@ -1,10 +1,6 @@
 -- The checks in order.
-use mathlib.Core.Path.{ap, _∙_}
+use mathlib.Core.Path.{ap}
 use mathlib.Core.Bool.{Bool, not}
-use mathlib.Core.List.{List}
-use Rattle.ranges.specs.declared.Range.{Range}
-use Rattle.rangelists.specs.Listed.{allowed}
-use Rattle.rules_table.specs.Good.{listsTouch}
 use Rattle.edits.specs.Settled.{checked, checked-last}
 use Rattle.rules_calls.specs.Allow.{listChecks}
 use Rattle.cmd_space.proofs.Listing.{or-is}
@@ -21,8 +17,8 @@ allowed-overlap-requires c κs = search needs
 either-requires : tie.Need-either-requires
 either-requires c κs = search needs
 
-reserved-touches-requires : tie.Need-reserved-touches-requires
-reserved-touches-requires c κs = search needs
+list-touched-requires : tie.Need-list-touched-requires
+list-touched-requires c κs = search needs
 
 refuse-if-requires : tie.Need-refuse-if-requires
 refuse-if-requires c κs = search needs
@@ -32,10 +28,8 @@ refuse-if-requires-2 c κs = search needs
 
 returns : tie.Need-returns
 unfolding listChecks
-returns c = λ os g.
-    let a = c .before .before .before .before .before .before .args in
-    checked _ _ _ _ _ _ _ (c .refuse-if2 .ensures) (or-is _ _ _ _ _ (c .before .before .before .either .ensures) (ap (λ (b : Bool). not b) (c .before .before .before .before .before .allowed-valid .ensures)) (c .before .before .before .before .allowed-overlap .ensures))
-    (checked-last _ _ _ _ _ (c .before .refuse-if .ensures) (c .before .before .reserved-touches .ensures ∙ ap (λ (rs : List Range). listsTouch rs (allowed (a .l))) (g .same (a .space))))
+returns c = checked _ _ _ _ _ _ _ (c .refuse-if2 .ensures) (or-is _ _ _ _ _ (c .before .before .before .either .ensures) (ap (λ (b : Bool). not b) (c .before .before .before .before .before .allowed-valid .ensures)) (c .before .before .before .before .allowed-overlap .ensures))
+    (checked-last _ _ _ _ _ (c .before .refuse-if .ensures) (c .before .before .list-touched .ensures))
 
 pub list-errno-spec : {M : Type 1} → statement M
 list-errno-spec =
@@ -44,7 +38,7 @@ list-errno-spec =
     allowed-valid-requires
     allowed-overlap-requires
     either-requires
-    reserved-touches-requires
+    list-touched-requires
     refuse-if-requires
     refuse-if-requires-2
     returns)

@@ -1,6 +1,5 @@
 -- The fields read, and decided.
-use mathlib.Core.Path.{sym, ap, _∙_}
-use Rattle.rules_table.specs.Records.{objectAt}
+use Rattle.rules_table.specs.Words.{objectsIn}
 use Rattle.cmd_space_bytes.proofs.Deciding.{allow-fields}
 use borrow.Author.Needs.{needs}
 use Rattle.cmd_space_bytes.proofs.allow.Statement.{statement}
@@ -19,9 +18,14 @@ decide-allow-requires : tie.Need-decide-allow-requires
 decide-allow-requires c κs = search needs
 
 returns : tie.Need-returns
-returns c = λ os e g. allow-fields os _ _ _ _ _ _ _ (c .before .before .before .read32 .ensures) (c .before .before .read322 .ensures) (c .before .read323 .ensures) (c .decide-allow .ensures os (e ∙ ap (objectAt os) (sym (c .before .before .before .read32 .ensures))) g)
+returns c = allow-fields (objectsIn ((c .before .before .before .before .before .before .args) .h .now)) _ _ _ _ _ _ _ (c .before .before .before .read32 .ensures) (c .before .before .read322 .ensures) (c .before .read323 .ensures) (c .decide-allow .ensures)
 
 pub allow-spec : {M : Type 1} → statement M
 allow-spec =
     tie.close
-    (tie.spec read32-requires read32-requires-2 read32-requires-3 decide-allow-requires returns)
+    (tie.spec
+    read32-requires
+    read32-requires-2
+    read32-requires-3
+    decide-allow-requires
+    returns)

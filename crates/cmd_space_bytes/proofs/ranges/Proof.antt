@@ -1,4 +1,5 @@
 -- The errno as an edit.
+use Rattle.rules_table.specs.Words.{objectsIn}
 use Rattle.cmd_space_bytes.proofs.Replying.{ranges-edit}
 use borrow.Author.Needs.{needs}
 use Rattle.cmd_space_bytes.proofs.ranges.Statement.{statement}
@@ -17,8 +18,14 @@ same-length-2 : tie.Need-same-length-2
 same-length-2 c = search needs
 
 returns : tie.Need-returns
-returns c = λ os b h. ranges-edit os _ _ _ _ _ _ (c .refusal .ensures) (c .before .before .before .before .before .answer-ranges .ensures os b h)
+returns c = λ e. ranges-edit (objectsIn ((c .before .before .before .before .before .before .before .before .before .before .args) .h .now)) _ _ _ _ _ _ (c .refusal .ensures) ((c .before .before .before .before .before .answer-ranges .ensures) e)
 
 pub ranges-spec : {M : Type 1} → statement M
 ranges-spec =
-    tie.close (tie.spec answer-ranges-requires refusal-requires same-length same-length-2 returns)
+    tie.close
+    (tie.spec
+    answer-ranges-requires
+    refusal-requires
+    same-length
+    same-length-2
+    returns)

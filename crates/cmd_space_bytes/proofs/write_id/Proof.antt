@@ -1,7 +1,7 @@
 -- Written where the errno is 0.
 use native.Mathlib.Omega.{arith}
-use mathlib.Core.Path.{_∙_}
-use Rattle.tablecheck.proofs.Gating.{replied-some, replied-none}
+use mathlib.Core.Path.{sym, _∙_}
+use Rattle.edits.specs.Replies.{written, unwritten}
 use borrow.Author.Needs.{needs}
 use Rattle.cmd_space_bytes.proofs.write_id.Statement.{statement}
 use Rattle.cmd_space_bytes.proofs.write_id.Tie as tie
@@ -16,10 +16,10 @@ same-length : tie.Need-same-length
 same-length c = search needs
 
 returns : tie.Need-returns
-returns c = c .before .before .write32 .ensures ∙ replied-some _ _ _ _ _ (omega arith)
+returns c = c .before .before .write32 .ensures ∙ written _ _ _ _ _ (omega arith)
 
 returns-2 : tie.Need-returns-2
-returns-2 c = replied-none _ _ _ _ _ (c .if1 .left)
+returns-2 c = sym (unwritten _ _ _ _ _ (c .if1 .left))
 
 pub write-id-spec : {M : Type 1} → statement M
 write-id-spec = tie.close (tie.spec cast-write32 write32-requires same-length returns returns-2)

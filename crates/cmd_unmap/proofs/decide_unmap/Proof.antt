@@ -18,7 +18,7 @@ range-asked-requires : tie.Need-range-asked-requires
 range-asked-requires c κs = search needs
 
 removal-of-requires : tie.Need-removal-of-requires
-removal-of-requires c κs = records-short (c .before .before .before .pre .0) _ (c .before .before .before .pre .1)
+removal-of-requires c κs = (c .before .before .before .pre .0, records-short (c .before .before .before .pre .1 .0) _ (c .before .before .before .pre .1 .1))
 
 asks-all-requires : tie.Need-asks-all-requires
 asks-all-requires c κs = search needs

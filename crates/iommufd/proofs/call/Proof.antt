@@ -1,21 +1,21 @@
--- The digest of the table itself; then the edit, applied.
-use Rattle.lists.specs.Update.{length-mapped}
-use Rattle.iommufd.proofs.Dispatching.{digest-for, call-done}
+-- What is decided on the words of the table itself, applied.
+use Rattle.check_table.specs.Known.{table-back}
+use Rattle.iommufd.proofs.Dispatching.{call-done, decided-back}
 use borrow.Author.Needs.{needs}
 use Rattle.iommufd.proofs.call.Statement.{statement}
 use Rattle.iommufd.proofs.call.Tie as tie
 
-first-id-requires : tie.Need-first-id-requires
-first-id-requires c κs = search needs
+head-of-requires : tie.Need-head-of-requires
+head-of-requires c κs = search needs
 
-second-id-requires : tie.Need-second-id-requires
-second-id-requires c κs = search needs
+words-of-requires : tie.Need-words-of-requires
+words-of-requires c κs = search needs
 
-digest-of-requires : tie.Need-digest-of-requires
-digest-of-requires c κs = search needs
+slice-aggregate-decide : tie.Need-slice-aggregate-decide
+slice-aggregate-decide c = search needs
 
 decide-requires : tie.Need-decide-requires
-decide-requires c κs = record { objects = c .before .before .before .before .before .before .before .before .before .before .before .args .t .objects; a = _; b = _; many = search (length-mapped, c .before .before .before .before .before .before .before .before .before .before .before .good); digest = c .before .before .before .digest-of .ensures }
+decide-requires c κs = search needs
 
 settled-requires : tie.Need-settled-requires
 settled-requires c κs = search needs
@@ -27,15 +27,15 @@ same-length-2 : tie.Need-same-length-2
 same-length-2 c = search needs
 
 returns : tie.Need-returns
-returns c = call-done (c .before .before .before .before .before .before .before .before .before .before .before .before .before .before .before .before .before .args .t) _ _ _ _ _ _ _ (c .before .before .before .before .before .decide .ensures (c .before .before .before .before .before .before .before .before .before .before .before .before .before .before .before .before .before .args .t .objects) (search (length-mapped, c .before .before .before .before .before .before .before .before .before .before .before .before .before .before .before .before .before .good)) (digest-for _ _ _ _ _ _ (c .before .before .before .before .before .before .before .before .before .before .before .before .first-id .ensures) (c .before .before .before .before .before .before .before .before .before .before .second-id .ensures) (c .before .before .before .before .before .before .before .before .before .digest-of .ensures))) (c .settled .ensures)
+returns c = let a = (c .before .before .before .before .before .before .before .before .before .before .before .before .before .before .before .before .args) in call-done (a .t) (a .request) _ _ _ _ _ _ (decided-back (a .t) _ (a .request) _ _ _ _ _ (table-back ((c .before .before .before .before .before .before .before .before .before .before .before .before .before .before .before .before .args) .t) _ _ ((c .before .before .before .before .before .before .before .before .before .before .before .before .head-of .ensures) .0) ((c .before .before .before .before .before .before .before .before .before .before .before .before .head-of .ensures) .1) (c .before .before .before .before .before .before .before .before .before .before .words-of .ensures)) (c .before .before .before .before .before .decide .ensures)) (c .settled .ensures)
 
 pub call-spec : {M : Type 1} → statement M
 call-spec =
     tie.close
     (tie.spec
-    first-id-requires
-    second-id-requires
-    digest-of-requires
+    head-of-requires
+    words-of-requires
+    slice-aggregate-decide
     decide-requires
     settled-requires
     same-length

@@ -1,17 +1,40 @@
--- The digest of the table itself.
-use Rattle.lists.specs.Update.{length-mapped}
+-- The verdict on the words of the table itself.
+use mathlib.Core.Path.{ap, _∙_}
+use Rattle.rules_table.specs.Good.{good}
+use Rattle.check_table.specs.Known.{table-is, table-back}
 use borrow.Author.Needs.{needs}
 use Rattle.iommufd.proofs.is_good.Statement.{statement}
 use Rattle.iommufd.proofs.is_good.Tie as tie
 
-digest-of-requires : tie.Need-digest-of-requires
-digest-of-requires c κs = search needs
+head-of-requires : tie.Need-head-of-requires
+head-of-requires c κs = search needs
 
-is-good-requires : tie.Need-is-good-requires
-is-good-requires c κs = search needs
+words-of-requires : tie.Need-words-of-requires
+words-of-requires c κs = search needs
+
+slice-aggregate-check : tie.Need-slice-aggregate-check
+slice-aggregate-check c = search needs
+
+slice-aggregate-check-2 : tie.Need-slice-aggregate-check-2
+slice-aggregate-check-2 c = search needs
+
+slice-aggregate-check-3 : tie.Need-slice-aggregate-check-3
+slice-aggregate-check-3 c = search needs
+
+check-requires : tie.Need-check-requires
+check-requires c κs = search needs
 
 returns : tie.Need-returns
-returns c = c .is-good .ensures _ _ _ (search (length-mapped, c .before .before .before .before .good)) (c .before .before .digest-of .ensures)
+returns c = (c .before .before .check .ensures) .verdict ∙ ap good (table-is _ _ ∙ (table-back ((c .before .before .before .before .before .before .before .before .before .before .before .args) .t) _ _ ((c .before .before .before .before .before .before .before .before .before .head-of .ensures) .0) ((c .before .before .before .before .before .before .before .before .before .head-of .ensures) .1) (c .before .before .before .before .before .before .before .words-of .ensures)))
 
 pub is-good-spec : {M : Type 1} → statement M
-is-good-spec = tie.close (tie.spec digest-of-requires is-good-requires returns)
+is-good-spec =
+    tie.close
+    (tie.spec
+    head-of-requires
+    words-of-requires
+    slice-aggregate-check
+    slice-aggregate-check-2
+    slice-aggregate-check-3
+    check-requires
+    returns)

@@ -1,5 +1,7 @@
 -- A length that misfits, or the lowest candidate.
 use borrow.Author.Tests.{not-true, not-false}
+use Rattle.rules_table.specs.Words.{objectsIn}
+use Rattle.layout_mappings.specs.Words.{recordsOf}
 use Rattle.landing.proofs.Finding.{automatic-misfit, automatic-found}
 use borrow.Author.Needs.{needs}
 use Rattle.landing.proofs.automatic_place.Statement.{statement}
@@ -9,7 +11,7 @@ is-multiple-requires : tie.Need-is-multiple-requires
 is-multiple-requires c κs = search needs
 
 returns : tie.Need-returns
-returns c = λ os ms s ea eo el. automatic-misfit os ms s _ _ _ ea (c .before .is-multiple .ensures) (not-true _ (c .if1 .taken))
+returns c = λ ea el. automatic-misfit (objectsIn (c .before .before .args .h .now)) (recordsOf (c .before .before .args .ws .now)) _ _ _ _ ea (c .before .is-multiple .ensures) (not-true _ (c .if1 .taken))
 
 place-requires : tie.Need-place-requires
 place-requires c κs = search needs
@@ -18,7 +20,7 @@ placing-of-requires : tie.Need-placing-of-requires
 placing-of-requires c κs = search needs
 
 returns-2 : tie.Need-returns-2
-returns-2 c = λ os ms s ea eo el. automatic-found os ms s _ _ _ _ _ _ _ ea (c .before .before .before .is-multiple .ensures) (not-false _ (c .before .before .if1 .left)) el eo (c .before .place .ensures .0) (c .placing-of .ensures)
+returns-2 c = λ ea el. automatic-found (objectsIn (c .before .before .before .before .args .h .now)) (recordsOf (c .before .before .before .before .args .ws .now)) _ _ _ _ _ _ _ ea (c .before .before .before .is-multiple .ensures) (not-false _ (c .before .before .if1 .left)) el (c .before .place .ensures .0) (c .placing-of .ensures)
 
 pub automatic-place-spec : {M : Type 1} → statement M
 automatic-place-spec =

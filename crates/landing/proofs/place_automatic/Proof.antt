@@ -1,5 +1,7 @@
 -- The lowest candidate.
 use mathlib.Core.Path.{refl}
+use Rattle.rules_table.specs.Words.{objectsIn}
+use Rattle.layout_mappings.specs.Words.{recordsOf}
 use Rattle.landing.proofs.Finding.{automatic-placed}
 use borrow.Author.Needs.{needs}
 use Rattle.landing.proofs.place_automatic.Statement.{statement}
@@ -9,7 +11,7 @@ automatic-place-requires : tie.Need-automatic-place-requires
 automatic-place-requires c κs = search needs
 
 returns : tie.Need-returns
-returns c = λ os ms f a l b. automatic-placed os ms _ _ _ refl f (c .automatic-place .ensures os ms _ a l b)
+returns c = λ f ea el. automatic-placed (objectsIn (c .before .args .h .now)) (recordsOf (c .before .args .ws .now)) _ _ _ refl f (c .automatic-place .ensures ea el)
 
 pub place-automatic-spec : {M : Type 1} → statement M
 place-automatic-spec = tie.close (tie.spec automatic-place-requires returns)

@@ -1,5 +1,5 @@
 -- The two parts of `roomAt`, in order.
-use Rattle.placement.proofs.Sweeping.{room-passed, room-inside}
+use Rattle.placement.specs.Sweeping.{room-passed, room-inside}
 use borrow.Author.Needs.{needs}
 use Rattle.placement.proofs.has_room.Statement.{statement}
 use Rattle.placement.proofs.has_room.Tie as tie

@@ -1,6 +1,6 @@
 -- 0 where the place is the same, else 1.
 use native.Mathlib.Omega.{arith}
-use Rattle.placement.proofs.Sweeping.{jumps-none, jumps-one}
+use Rattle.placement.specs.Sweeping.{jumps-none, jumps-one}
 use Rattle.placement.proofs.jumps_to.Statement.{statement}
 use Rattle.placement.proofs.jumps_to.Tie as tie
 

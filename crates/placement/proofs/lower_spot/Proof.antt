@@ -1,5 +1,5 @@
 -- The cases of `lowerOf`.
-use Rattle.placement.proofs.Sweeping.{lower-first, lower-both}
+use Rattle.placement.specs.Sweeping.{lower-first, lower-both}
 use borrow.Author.Needs.{needs}
 use Rattle.placement.proofs.lower_spot.Statement.{statement}
 use Rattle.placement.proofs.lower_spot.Tie as tie

@@ -1,6 +1,6 @@
 -- The three branches of `pastOf`.
 use native.Mathlib.Omega.{arith}
-use Rattle.placement.proofs.Sweeping.{past-here, past-end, past-on}
+use Rattle.placement.specs.Sweeping.{past-here, past-end, past-on}
 use borrow.Author.Needs.{needs}
 use Rattle.placement.proofs.past.Statement.{statement}
 use Rattle.placement.proofs.past.Tie as tie

@@ -3,7 +3,7 @@ use borrow.Author.Needs.{needs}
 use native.Mathlib.Omega.{arith}
 use Prim.Native.Nat.{_-_}
 use Rattle.rangelists.specs.Listed.{listed}
-use Rattle.placement.proofs.Sweeping.{jumps-most, Sweeping, sweep-start, sweep-small, sweep-on, sweep-never, sweep-end}
+use Rattle.placement.specs.Sweeping.{jumps-most, Sweeping, sweep-start, sweep-small, sweep-on, sweep-never, sweep-end}
 use Rattle.placement.proofs.sweep.Statement.{statement}
 use Rattle.placement.proofs.sweep.Tie as tie
 

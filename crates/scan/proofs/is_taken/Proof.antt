@@ -1,35 +1,31 @@
--- What is left from record i on answers for the whole.
 use borrow.Author.Needs.{needs}
 use native.Mathlib.Omega.{arith}
 use Prim.Native.Nat.{_-_, _≤_}
-use mathlib.Core.Path.{_≡_, refl, sym, _∙_}
+use mathlib.Core.Path.{_≡_, refl, sym, ap, _∙_}
 use lib.ListN.{length, drop}
-use Rattle.lists.specs.Update.{length-mapped}
 use Rattle.lists.specs.Search.{any, any-found, any-on, any-end}
 use Rattle.rules_table.specs.Records.{zeroMapping, touches}
+use Rattle.layout_mappings.specs.Words.{recordsOf, records-length}
 use Rattle.scan.proofs.is_taken.Statement.{statement}
 use Rattle.scan.proofs.is_taken.Tie as tie
 
 abbrev Inv-loop : tie.InvT-loop
-Inv-loop s r ms i₀ i = (i ≤ 128) × (length ms ≡ 128) × (any (touches s r) (drop i ms) ≡ any (touches s r) ms)
+Inv-loop ws s r i₀ i = (i ≤ length ws) × (any (touches s r) (drop i (recordsOf ws)) ≡ any (touches s r) (recordsOf ws))
 
 abbrev μ-loop : tie.MeasureT-loop
-μ-loop s r ms i₀ i = 128 - i
+μ-loop ws s r i₀ i = length ws - i
 
 loop-holds : tie.Need-loop-holds Inv-loop μ-loop
-loop-holds c = (search needs, search (needs, length-mapped), refl)
+loop-holds c = (search needs, refl)
 
-mul-m : tie.Need-mul-m Inv-loop μ-loop
-mul-m c = search needs
-
-array-copy-out-m : tie.Need-array-copy-out-m Inv-loop μ-loop
-array-copy-out-m c = search needs
+record-requires : tie.Need-record-requires Inv-loop μ-loop
+record-requires c κs = search needs
 
 is-touched-requires : tie.Need-is-touched-requires Inv-loop μ-loop
 is-touched-requires c κs = search needs
 
 returns : tie.Need-returns Inv-loop μ-loop
-returns c = let l = c .before .before .before .before .loop in any-found _ _ (l .i) (l .inv .2) zeroMapping (omega arith) (sym (c .before .is-touched .ensures) ∙ c .if1 .taken)
+returns c = let a = c .before .before .before .before .before .args in let l = c .before .before .before .before .loop in any-found (touches (a .s) (a .r)) (recordsOf (a .ws .now)) (l .i) (l .inv .1) zeroMapping (omega (arith, records-length (a .ws .now), c .before .before .before .loop-test .taken)) (sym (c .before .is-touched .ensures ∙ ap (touches (a .s) (a .r)) (c .before .before .«record» .ensures)) ∙ c .if1 .taken)
 
 add-i : tie.Need-add-i Inv-loop μ-loop
 add-i c = search needs
@@ -38,10 +34,10 @@ loop-less : tie.Need-loop-less Inv-loop μ-loop
 loop-less c = search needs
 
 loop-again : tie.Need-loop-again Inv-loop μ-loop
-loop-again c = let l = c .before .before .before .before .loop in (search needs, search needs, any-on _ _ (l .i) (l .inv .2) zeroMapping (omega arith) (sym (c .before .is-touched .ensures) ∙ c .if1 .left))
+loop-again c = let a = c .before .before .before .before .before .args in let l = c .before .before .before .before .loop in (search needs, any-on (touches (a .s) (a .r)) (recordsOf (a .ws .now)) (l .i) (l .inv .1) zeroMapping (omega (arith, records-length (a .ws .now), c .before .before .before .loop-test .taken)) (sym (c .before .is-touched .ensures ∙ ap (touches (a .s) (a .r)) (c .before .before .«record» .ensures)) ∙ c .if1 .left))
 
 returns-2 : tie.Need-returns-2 Inv-loop μ-loop
-returns-2 c = let l = c .before .loop in any-end _ _ (l .i) (l .inv .2) (omega arith)
+returns-2 c = let a = c .before .before .args in let l = c .before .loop in any-end (touches (a .s) (a .r)) (recordsOf (a .ws .now)) (l .i) (l .inv .1) (omega (arith, records-length (a .ws .now), c .loop-test .left))
 
 pub is-taken-spec : {M : Type 1} → statement M
 is-taken-spec =
@@ -50,8 +46,7 @@ is-taken-spec =
     Inv-loop
     μ-loop
     loop-holds
-    mul-m
-    array-copy-out-m
+    record-requires
     is-touched-requires
     returns
     add-i

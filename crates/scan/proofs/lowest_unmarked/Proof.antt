@@ -1,4 +1,3 @@
--- What is left from number b on answers for all.
 use borrow.Author.Needs.{needs}
 use native.Mathlib.Omega.{arith}
 use Prim.Native.Nat.{_-_, _≤_}
@@ -18,13 +17,13 @@ abbrev μ-loop : tie.MeasureT-loop
 μ-loop marks b₀ b = 129 - b
 
 loop-holds : tie.Need-loop-holds Inv-loop μ-loop
-loop-holds c = (search needs, search needs, unmarked-start _ _ (omega arith))
+loop-holds c = let a = c .args in (search needs, search needs, unmarked-start (a .marks .now) _ (omega arith))
 
-array-read-mark : tie.Need-array-read-mark Inv-loop μ-loop
-array-read-mark c = search needs
+shared-slice-read-if1 : tie.Need-shared-slice-read-if1 Inv-loop μ-loop
+shared-slice-read-if1 c = search needs
 
 returns : tie.Need-returns Inv-loop μ-loop
-returns c = let l = c .before .before .loop in unmarked-found _ (l .b) (l .inv .2) (omega arith) (omega arith)
+returns c = let a = c .before .before .before .before .args in let l = c .before .before .before .loop in unmarked-found (a .marks .now) (l .b) (l .inv .2) (omega arith) (c .if1 .taken)
 
 add-b : tie.Need-add-b Inv-loop μ-loop
 add-b c = search needs
@@ -33,10 +32,10 @@ loop-less : tie.Need-loop-less Inv-loop μ-loop
 loop-less c = search needs
 
 loop-again : tie.Need-loop-again Inv-loop μ-loop
-loop-again c = let l = c .before .before .loop in (search needs, search needs, unmarked-on _ (l .b) (l .inv .2) (omega arith) (c .if1 .left))
+loop-again c = let a = c .before .before .before .before .args in let l = c .before .before .before .loop in (search needs, search needs, unmarked-on (a .marks .now) (l .b) (l .inv .2) (omega arith) (c .if1 .left))
 
 returns-2 : tie.Need-returns-2 Inv-loop μ-loop
-returns-2 c = let l = c .before .loop in unmarked-end _ (l .b) (l .inv .2) (omega arith)
+returns-2 c = let a = c .before .before .args in let l = c .before .loop in unmarked-end (a .marks .now) (l .b) (l .inv .2) (omega arith)
 
 pub lowest-unmarked-spec : {M : Type 1} → statement M
 lowest-unmarked-spec =
@@ -45,7 +44,7 @@ lowest-unmarked-spec =
     Inv-loop
     μ-loop
     loop-holds
-    array-read-mark
+    shared-slice-read-if1
     returns
     add-b
     loop-less

@@ -1,64 +1,106 @@
-//! Whether a table is good, as the archive checks it: the objects, each by its own rules and by the space it names; the alignment of each space, gathered once; each mapping by
-//! itself; the reserved ranges, of which there are few, each against all mappings; backings and charge in one pass; then whether the mappings of each space ascend in the order of the
-//! records, and only where they do not, all pairs.
-use super::range::{overlap, touch, Range};
-use super::table::{allowed, extent, page, pages, reserved};
+//! Whether a table is good, by the steps of the archive, and what is found on the way: one pass over the objects, one over the mapping records, each
+//! reserved range against all mappings, and the pairs of mappings only where some record was out of order.
+use super::range::{overlap, touch};
+use super::table::{allowed, extent, page, pages, reserved, Records};
 use super::{ATTACHED, LOOSE, MAX_LENGTH, MAX_LIMIT, MAX_PAGE, READ, RECORDS, SPACE, WRITE};
 use iommufd::raw::{Head, Mapping, Object};
 
-type Records = [Mapping; RECORDS];
+/// What the check finds in a good table and hands on, so that no call works it out again.
+pub struct Found {
+    /// The pages of all backings, each counted once.
+    pub charge: u64,
+    /// The lowest free object record.
+    pub object: Option<usize>,
+    /// The lowest released mapping record.
+    pub mapping: Option<usize>,
+    /// The alignment of each space by its id, 0 where there is no such space.
+    pub alignments: [u64; 33],
+    /// By its number, one more than the place of a backing's first record, 0 where no record has the backing.
+    pub marks: [u8; RECORDS + 1],
+    /// Whether the mappings of each space ascend, so that no two of them share an address.
+    ordered: bool,
+}
 
-pub fn is_good(head: &Head, mappings: &[Mapping]) -> bool {
-    let Ok(mappings) = <&Records>::try_from(mappings) else {
-        return false;
-    };
+impl Found {
+    pub fn nothing() -> Found {
+        Found { charge: 0, object: None, mapping: None, alignments: [0; 33], marks: [0; RECORDS + 1], ordered: false }
+    }
+}
+
+/// `found` comes with nothing in it, and is of use where the table is good. The passes are functions of their own: inlined into one they would take
+/// each other's registers.
+pub fn is_good(head: &Head, mappings: &Records, found: &mut Found) -> bool {
     head.limit <= MAX_LIMIT
-        && head.objects.iter().all(|o| object_good(head, o))
-        && records_good(head, mappings)
+        && objects_good(head, found)
+        && records_good(mappings, found)
+        && found.charge <= head.limit
         && clear_of_reserved(head, mappings)
-        && charge(mappings).is_some_and(|sum| sum <= head.limit)
-        && (ascending(mappings) || !clashing(mappings))
+        && (found.ordered || !clashing(mappings))
 }
 
 // ---- objects
 
-fn object_good(head: &Head, o: &Object) -> bool {
-    match o.kind {
-        0 => *o == Object::default(),
-        SPACE => o.home == 0 && space_good(o) && no_device(o),
-        LOOSE => o.home == 0 && device_good(o) && no_space(o),
-        ATTACHED => device_good(o) && no_space(o) && home_good(head, o),
-        _ => false,
+/// Each object by its own rules and by the space that it names.
+#[inline(never)]
+fn objects_good(head: &Head, found: &mut Found) -> bool {
+    let mut free = head.objects.len();
+    for (place, o) in head.objects.iter().enumerate() {
+        if is_released(o) {
+            free = free.min(place);
+        } else if !held_good(head, place, &mut found.alignments) {
+            return false;
+        }
     }
+    found.object = (free < head.objects.len()).then_some(free);
+    true
 }
 
-fn all_zero(places: &[u64]) -> bool {
-    places.iter().all(|&x| x == 0)
+/// An object record that holds something. Apart from the loop, which most often finds a released one.
+#[inline(never)]
+fn held_good(head: &Head, place: usize, alignments: &mut [u64; 33]) -> bool {
+    let o = &head.objects[place];
+    match o.kind {
+        SPACE if space_good(o) => raise(&mut alignments[place + 1], 1),
+        LOOSE if o.home == 0 && device_good(o) => {}
+        ATTACHED if device_good(o) && home_good(head, o) => raise(&mut alignments[o.home as usize], page(o.bitmap)),
+        _ => return false,
+    }
+    true
 }
 
-/// The places past the count are not in use.
-fn list_good(starts: &[u64], lasts: &[u64], count: u32) -> bool {
-    let count = count as usize;
-    count <= starts.len()
-        && starts.iter().zip(lasts).take(count).all(|(start, last)| start <= last)
-        && all_zero(&starts[count..])
-        && all_zero(&lasts[count..])
+fn raise(alignment: &mut u64, to: u64) {
+    *alignment = to.max(*alignment);
 }
 
-fn no_device(o: &Object) -> bool {
-    o.bitmap == 0 && o.reserved_count == 0 && all_zero(&o.reserved_starts) && all_zero(&o.reserved_lasts)
+/// The bits of all places joined, so that there is one test for all of them.
+fn joined(places: &[u64]) -> u64 {
+    places.iter().fold(0, |bits, x| bits | x)
 }
 
-fn no_space(o: &Object) -> bool {
-    o.allow_count == 0 && all_zero(&o.allow_starts) && all_zero(&o.allow_lasts)
+fn device_bits(o: &Object) -> u64 {
+    o.bitmap | u64::from(o.reserved_count) | joined(&o.reserved_starts) | joined(&o.reserved_lasts)
+}
+
+fn space_bits(o: &Object) -> u64 {
+    u64::from(o.allow_count) | joined(&o.allow_starts) | joined(&o.allow_lasts)
+}
+
+fn is_released(o: &Object) -> bool {
+    u64::from(o.kind | o.home) | device_bits(o) | space_bits(o) == 0
 }
 
 fn space_good(o: &Object) -> bool {
-    list_good(&o.allow_starts, &o.allow_lasts, o.allow_count) && !overlap(allowed(o))
+    u64::from(o.home) | device_bits(o) == 0 && list_good(&o.allow_starts, &o.allow_lasts, o.allow_count) && !overlap(allowed(o))
 }
 
 fn device_good(o: &Object) -> bool {
-    o.bitmap != 0 && page(o.bitmap) <= MAX_PAGE && list_good(&o.reserved_starts, &o.reserved_lasts, o.reserved_count)
+    o.bitmap != 0 && page(o.bitmap) <= MAX_PAGE && list_good(&o.reserved_starts, &o.reserved_lasts, o.reserved_count) && space_bits(o) == 0
+}
+
+/// The places past the count are not in use.
+fn list_good<const MOST: usize>(starts: &[u64; MOST], lasts: &[u64; MOST], count: u32) -> bool {
+    let place_good = |(i, (start, last)): (usize, (&u64, &u64))| if i < count as usize { start <= last } else { start | last == 0 };
+    count as usize <= MOST && starts.iter().zip(lasts).enumerate().all(place_good)
 }
 
 /// The home of an attached device is a space that allows nothing the device reserves.
@@ -69,70 +111,69 @@ fn home_good(head: &Head, device: &Object) -> bool {
 
 // ---- mappings
 
-/// The alignment of each space by its id, 0 where there is no such space. The objects are good.
-fn alignments(head: &Head) -> [u64; 33] {
-    let mut found = [0; 33];
-    for (id, o) in (1..).zip(&head.objects) {
-        match o.kind {
-            SPACE => found[id] = found[id].max(1),
-            ATTACHED => found[o.home as usize] = found[o.home as usize].max(page(o.bitmap)),
-            _ => {}
+/// Each record in use by its own rules, against the first record of its backing, and against the floor of its space: the first address behind the
+/// record before it.
+#[inline(never)]
+fn records_good(mappings: &Records, found: &mut Found) -> bool {
+    let (mut floors, mut charge, mut free, mut ordered) = ([0; 33], 0, RECORDS, true);
+    for (place, m) in mappings.iter().enumerate() {
+        if m.space == 0 {
+            if !is_empty(m) {
+                return false;
+            }
+            free = free.min(place);
+        } else {
+            let alignment = found.alignments.get(m.space as usize).copied().unwrap_or(0);
+            if !record_good(alignment, m) {
+                return false;
+            }
+            let mark = &mut found.marks[m.backing as usize];
+            if *mark == 0 {
+                *mark = place as u8 + 1;
+                charge += pages(m.memory, m.length);
+            } else if differ(&mappings[*mark as usize - 1], m) {
+                return false;
+            }
+            // Behind U64MAX there is no floor.
+            let last = extent(m).last;
+            let floor = std::mem::replace(&mut floors[m.space as usize], last.wrapping_add(1));
+            ordered &= floor <= m.address && last < u64::MAX;
         }
     }
-    found
+    found.charge = charge;
+    found.ordered = ordered;
+    found.mapping = (free < RECORDS).then_some(free);
+    true
 }
 
-fn records_good(head: &Head, mappings: &Records) -> bool {
-    let alignments = alignments(head);
-    mappings.iter().all(|m| match m.space {
-        0 => *m == Mapping::default(),
-        id => alignments.get(id as usize).is_some_and(|&a| record_good(a, m)),
-    })
+/// A record that names no space has nothing else either.
+fn is_empty(m: &Mapping) -> bool {
+    u64::from(m.rights | m.founder | m.backing) | m.address | m.length | m.memory == 0
 }
 
-/// A record in use, by itself and the alignment of its space, 0 where that is none. An alignment is a power of two.
+/// A record in use, by itself and the alignment of its space, a power of two, or 0 where there is no such space.
 fn record_good(alignment: u64, m: &Mapping) -> bool {
+    let behind = m.length.wrapping_sub(1);
     alignment != 0
         && (m.address | m.length) & (alignment - 1) == 0
-        && m.length <= MAX_LENGTH
-        && Range::of(m.address, m.length).is_some()
-        && Range::of(m.memory, m.length).is_some()
+        && behind < MAX_LENGTH
+        && m.address.checked_add(behind).is_some()
+        && m.memory.checked_add(behind).is_some()
         && (1..=WRITE | READ).contains(&m.rights)
         && m.founder <= 1
-        && (m.rights & WRITE == 0 || m.founder == 1)
+        && m.rights & WRITE <= m.founder
         && (1..=RECORDS as u32).contains(&m.backing)
 }
 
+/// Mappings of one backing are of the same memory and founder.
+fn differ(m: &Mapping, n: &Mapping) -> bool {
+    (m.memory, m.length, m.founder) != (n.memory, n.length, n.founder)
+}
+
+#[inline(never)]
 fn clear_of_reserved(head: &Head, mappings: &Records) -> bool {
-    let devices = head.objects.iter().filter(|o| o.kind == ATTACHED);
-    devices.flat_map(|d| reserved(d).map(|r| (d.home, r))).all(|(home, r)| !mappings.iter().any(|m| m.space == home && extent(m).shares(r)))
-}
-
-/// The pages of all backings, each counted once; `None` where two mappings of one backing differ.
-fn charge(mappings: &Records) -> Option<u64> {
-    let mut first: [Option<&Mapping>; RECORDS + 1] = [None; RECORDS + 1];
-    let mut sum = 0;
-    for m in mappings.iter().filter(|m| m.space != 0) {
-        match first[m.backing as usize] {
-            None => {
-                first[m.backing as usize] = Some(m);
-                sum += pages(m.memory, m.length);
-            }
-            Some(f) if (f.memory, f.length, f.founder) != (m.memory, m.length, m.founder) => return None,
-            Some(_) => {}
-        }
-    }
-    Some(sum)
-}
-
-/// Whether each mapping begins past the end of those of its space in the records before it. After one that ends at U64MAX there is no telling.
-fn ascending(mappings: &Records) -> bool {
-    let mut floors = [0; 33];
-    mappings.iter().filter(|m| m.space != 0).all(|m| {
-        let taken = extent(m);
-        let floor = std::mem::replace(&mut floors[m.space as usize], taken.last.saturating_add(1));
-        floor <= taken.start && taken.last < u64::MAX
-    })
+    let mut devices = head.objects.iter().filter(|o| o.kind == ATTACHED);
+    devices.all(|d| reserved(d).all(|r| !mappings.iter().any(|m| m.space == d.home && r.shares(extent(m)))))
 }
 
 /// Whether two mappings of one space share an address.

@@ -196,11 +196,11 @@ fn map(t: Table, command: &mut [u8]) -> Answer<Change> {
     let space = t.space(id).ok_or(ENOENT)?;
     let address = place(t, space, &target)?;
     let free = t.free_mapping().ok_or(ENOMEM)?;
-    let backings = t.backings();
-    refuse(backings.charge + pages(memory, length) > t.head.limit, ENOMEM)?;
+    let (charge, backing) = t.backings();
+    refuse(charge + pages(memory, length) > t.head.limit, ENOMEM)?;
     write64(command, 32, address);
     let founder = (flags & WRITEABLE != 0) as u32;
-    Ok(Change::Put(free, Mapping { space: id, rights: rights(flags), founder, backing: backings.lowest, address, length, memory }))
+    Ok(Change::Put(free, Mapping { space: id, rights: rights(flags), founder, backing, address, length, memory }))
 }
 
 fn copy(t: Table, command: &mut [u8]) -> Answer<Change> {

@@ -1,7 +1,7 @@
 //! Where a new mapping lands: at the address asked, or at the lowest candidate.
 use super::range::Range;
 use super::table::{allowed, extent, Table};
-use super::{refuse, Answer, EEXIST, EINVAL, ENOSPC, RECORDS};
+use super::{refuse, Answer, EEXIST, EINVAL, ENOSPC};
 use iommufd::raw::Object;
 
 /// What MAP and COPY ask: so many bytes in a space, at the address where it is fixed.
@@ -31,48 +31,47 @@ fn fixed(t: Table, alignment: u64, target: &Target) -> Answer<u64> {
     Ok(target.address)
 }
 
-/// The most that a new mapping may have to avoid: what 31 devices reserve, and the mappings.
-const MOST: usize = 31 * 4 + RECORDS;
-
-/// The ranges in a row, for a search passes over them again and again.
-fn gathered(room: &mut [Range; MOST], ranges: impl Iterator<Item = Range>) -> &[Range] {
-    let mut count = 0;
-    for (place, range) in room.iter_mut().zip(ranges) {
-        *place = range;
-        count += 1;
-    }
-    &room[..count]
-}
-
 /// The lowest candidate in one of the ranges that the space allows, or anywhere.
 fn lowest(t: Table, space: &Object, alignment: u64, target: &Target) -> Option<u64> {
-    let mut room = [Range::default(); MOST];
-    let blocked = gathered(&mut room, t.reserved(target.id).chain(t.mappings(target.id).map(extent)));
+    let search = Search { t, id: target.id, alignment, length: target.length };
     if space.allow_count == 0 {
-        return lowest_in(Range::ALL, blocked, alignment, target.length);
+        return search.lowest_in(Range::ALL);
     }
-    allowed(space).filter_map(|window| lowest_in(window, blocked, alignment, target.length)).min()
+    allowed(space).filter_map(|window| search.lowest_in(window)).min()
 }
 
-/// The lowest multiple of the alignment, a power of two, from x on.
-fn align(alignment: u64, x: u64) -> Option<u64> {
-    Some(x.checked_add(alignment - 1)? & !(alignment - 1))
+struct Search<'a> {
+    t: Table<'a>,
+    id: u32,
+    /// A power of two.
+    alignment: u64,
+    length: u64,
 }
 
-/// The candidate moves past every range that it touches; it is found when a whole pass over the ranges does not move it.
-fn lowest_in(window: Range, blocked: &[Range], alignment: u64, length: u64) -> Option<u64> {
-    let mut x = align(alignment, window.start)?;
-    loop {
-        let from = Range::of(x, length).filter(|r| r.is_inside(window))?;
-        let mut candidate = from;
-        for range in blocked {
-            if candidate.shares(*range) {
-                x = align(alignment, range.last.checked_add(1)?)?;
-                candidate = Range::of(x, length)?;
+impl Search<'_> {
+    /// The candidate moves past every range that it touches; it is found when a sweep over all of them does not move it.
+    fn lowest_in(&self, window: Range) -> Option<u64> {
+        let mut candidate = self.from(window.start)?;
+        loop {
+            if !candidate.is_inside(window) {
+                return None;
             }
+            let moved = self.sweep(candidate, self.t.reserved(self.id))?;
+            let moved = self.sweep(moved, self.t.mappings(self.id).map(extent))?;
+            if moved == candidate {
+                return Some(moved.start);
+            }
+            candidate = moved;
         }
-        if candidate == from {
-            return Some(x);
-        }
+    }
+
+    /// The candidate behind each of the ranges in turn that it touches. They are read where they lie.
+    fn sweep(&self, candidate: Range, mut ranges: impl Iterator<Item = Range>) -> Option<Range> {
+        ranges.try_fold(candidate, |c, r| if c.shares(r) { self.from(r.last.checked_add(1)?) } else { Some(c) })
+    }
+
+    /// The bytes from the lowest multiple of the alignment that is not below x.
+    fn from(&self, x: u64) -> Option<Range> {
+        Range::of(x.checked_add(self.alignment - 1)? & !(self.alignment - 1), self.length)
     }
 }

@@ -1,27 +1,25 @@
 //! A table to look at: what the calls ask of its records.
+use super::check::Found;
 use super::range::{listed, Range};
 use super::{ATTACHED, LOOSE, READ, RECORDS, SPACE, WRITE};
 use iommufd::raw::{Head, Mapping, Object};
 
+/// The mapping records of a table.
+pub type Records = [Mapping; RECORDS];
+
 #[derive(Clone, Copy)]
 pub struct Table<'a> {
     pub head: &'a Head,
-    pub mappings: &'a [Mapping],
-}
-
-/// What the backings of a table come to.
-pub struct Backings {
-    /// The pages of all backings, each counted once.
-    pub charge: u64,
-    /// The lowest number that no mapping has.
-    pub lowest: u32,
+    pub mappings: &'a Records,
+    /// What the check has found; where the table is trusted nothing is known, and what a call needs is worked out.
+    pub found: Option<&'a Found>,
 }
 
 // ---- one record
 
 /// The lowest set bit of a device's page sizes.
 pub fn page(bitmap: u64) -> u64 {
-    1 << bitmap.trailing_zeros()
+    bitmap & bitmap.wrapping_neg()
 }
 
 pub fn is_device(o: &Object) -> bool {
@@ -69,12 +67,12 @@ impl<'a> Table<'a> {
 
     /// The lowest free object record.
     pub fn free_object(self) -> Option<usize> {
-        self.head.objects.iter().position(|o| o.kind == 0)
+        self.found.map_or_else(|| self.head.objects.iter().position(|o| o.kind == 0), |found| found.object)
     }
 
-    /// The lowest free mapping record.
+    /// The lowest released mapping record.
     pub fn free_mapping(self) -> Option<usize> {
-        self.mappings.iter().position(|m| m.space == 0)
+        self.found.map_or_else(|| self.mappings.iter().position(|m| m.space == 0), |found| found.mapping)
     }
 
     /// The devices of a space.
@@ -82,8 +80,12 @@ impl<'a> Table<'a> {
         self.head.objects.iter().filter(move |o| o.kind == ATTACHED && o.home == space)
     }
 
+    /// The alignment of a space that there is.
     pub fn alignment(self, space: u32) -> u64 {
-        self.devices(space).map(|d| page(d.bitmap)).max().unwrap_or(1)
+        match self.found {
+            Some(found) => found.alignments[space as usize],
+            None => self.devices(space).map(|d| page(d.bitmap)).max().unwrap_or(1),
+        }
     }
 
     /// What the devices of a space reserve.
@@ -95,16 +97,31 @@ impl<'a> Table<'a> {
         self.mappings.iter().filter(move |m| m.space == space)
     }
 
-    /// In one pass; a backing is charged with its first mapping.
-    pub fn backings(self) -> Backings {
-        let mut seen = [false; RECORDS + 1];
-        let mut charge = 0;
+    /// The pages of all backings, each counted once.
+    pub fn charge(self) -> u64 {
+        self.found.map_or_else(|| self.marked().1, |found| found.charge)
+    }
+
+    /// The charge, and the lowest backing number that no mapping has: there is one where a mapping record is free.
+    pub fn backings(self) -> (u64, u32) {
+        let lowest = |marks: &[u8; RECORDS + 1]| (1..).zip(&marks[1..]).find(|(_, &mark)| mark == 0).map_or(0, |(n, _)| n);
+        match self.found {
+            Some(found) => (found.charge, lowest(&found.marks)),
+            None => {
+                let (marks, charge) = self.marked();
+                (charge, lowest(&marks))
+            }
+        }
+    }
+
+    /// A mark for each backing, and their charge.
+    fn marked(self) -> ([u8; RECORDS + 1], u64) {
+        let (mut marks, mut charge) = ([0; RECORDS + 1], 0);
         for m in self.mappings.iter().filter(|m| m.space != 0) {
-            if !std::mem::replace(&mut seen[m.backing as usize], true) {
+            if std::mem::replace(&mut marks[m.backing as usize], 1) == 0 {
                 charge += pages(m.memory, m.length);
             }
         }
-        let lowest = (1..).zip(&seen[1..]).find(|(_, &seen)| !seen).map_or(0, |(n, _)| n);
-        Backings { charge, lowest }
+        (marks, charge)
     }
 }

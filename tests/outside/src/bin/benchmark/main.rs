@@ -44,7 +44,7 @@ fn times(options: &Options, subjects: &[Subject], cells: &[Cell]) -> Vec<Row> {
 
 /// The ratio a/c on a full table is what the archive is held to.
 fn within(limit: f64, rows: &[Row]) -> Result<(), String> {
-    let ratios = rows.iter().filter(|r| r.is_full()).filter_map(|r| Some((r, r.ratio('a', 'c')?)));
+    let ratios = rows.iter().filter(|r| r.is_full() && r.cell.has_limit()).filter_map(|r| Some((r, r.ratio('a', 'c')?)));
     let above: Vec<String> = ratios.filter(|(_, ratio)| *ratio > limit).map(|(r, ratio)| format!("{}: {ratio:.2}", r.cell.name())).collect();
     if above.is_empty() {
         Ok(())

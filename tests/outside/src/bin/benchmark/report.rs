@@ -1,8 +1,8 @@
 //! What is printed beside the rows.
 use crate::stack;
-use outside::subjects::Subject;
+use outside::subjects::{cells, Subject};
 use outside::tables::{grouped, ROWS};
-use outside::workloads::{Job, Shape, Workload, COUNTS};
+use outside::workloads::Workload;
 
 pub fn header(machine: &str, empty: f64) {
     println!(
@@ -14,10 +14,8 @@ pub fn header(machine: &str, empty: f64) {
 /// The most stack that a system takes for a workload, over all tables.
 fn most_stack(subject: &Subject, workload: Workload) -> Result<usize, String> {
     let mut most = 0;
-    for shape in Shape::ALL {
-        for count in COUNTS {
-            most = most.max(stack::taken(subject.system, Job::new(workload, shape, count))?);
-        }
+    for cell in cells(&[workload]) {
+        most = most.max(stack::taken(subject.system, cell.job())?);
     }
     Ok(most)
 }

@@ -2,7 +2,7 @@
 //! print the same, whatever else the machine does.
 //!
 //! `--kit PROGRAM` names this program linked with the kit's own archive, for two columns more. `--limit` fails where a/c is above what the archive is held to, `--limit RATIO`
-//! where it is above RATIO in any row. With `--batches LETTERS` the program does what is counted, and prints nothing: it runs itself so.
+//! where it is above RATIO in any row that has a limit. With `--batches LETTERS` the program does what is counted, and prints nothing: it runs itself so.
 mod batches;
 mod callgrind;
 mod options;
@@ -92,9 +92,10 @@ fn without_copies(rounds: &[Vec<Round>]) {
     println!("\n`copying` is {} % of (a); without memcpy and memset in both, a/c is {}.", span(shares, 0), span(ratios, 2));
 }
 
-/// The row with the highest a/c of each number of mappings.
+/// The row with the highest a/c of each number of mappings, of those that have a limit.
 fn worst(rows: &[Row]) -> Vec<(&Row, f64)> {
-    let ratios = |count| rows.iter().filter(move |r| r.cell.count == count).filter_map(|r| Some((r, r.ratio('a', 'c')?)));
+    let limited = |count| rows.iter().filter(move |r| r.cell.count == count && r.cell.has_limit());
+    let ratios = |count| limited(count).filter_map(|r| Some((r, r.ratio('a', 'c')?)));
     COUNTS.into_iter().filter_map(|count| ratios(count).max_by(|a, b| a.1.total_cmp(&b.1))).collect()
 }
 

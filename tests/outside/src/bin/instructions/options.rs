@@ -6,7 +6,7 @@ use std::path::PathBuf;
 pub type Limits = [f64; COUNTS.len()];
 
 /// What the archive is held to: a hundredth or more above what it took when this was written, rounded up.
-const LIMITS: Limits = [3.2, 3.0, 2.6, 2.2];
+const LIMITS: Limits = [2.0, 2.1, 2.0, 1.9];
 
 #[derive(Debug, PartialEq)]
 pub struct Options {

@@ -1,2 +1,0 @@
--- Lists of ranges that grow at their end, as the code gathers them.
-pub mod Gathering

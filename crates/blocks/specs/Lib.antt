@@ -1,2 +1,0 @@
--- The reserved ranges of all attached devices, by space.
-pub mod Blocked

@@ -1,0 +1,56 @@
+use borrow.Author.Needs.{needs}
+use native.Mathlib.Omega.{arith}
+use Prim.Native.Nat.{_-_, _≤_}
+use mathlib.Core.Path.{_≡_, refl, sym, ap, _∙_}
+use lib.ListN.{length, drop}
+use Rattle.layout_mappings.specs.Words.{recordsOf, records-length}
+use Rattle.lists.specs.Search.{any, any-found, any-on, any-end}
+use Rattle.ranges.specs.Ranges.{range}
+use Rattle.rules_table.specs.Records.{zeroMapping, touches}
+use Rattle.check_mappings.proofs.touched_from.Statement.{statement}
+use Rattle.check_mappings.proofs.touched_from.Tie as tie
+
+abbrev Inv-loop : tie.InvT-loop
+Inv-loop ws from space first last i₀ i = (i ≤ length ws) × (first ≤ last) × (any (touches space (range first last)) (drop i (recordsOf ws)) ≡ any (touches space (range first last)) (drop from (recordsOf ws)))
+
+abbrev μ-loop : tie.MeasureT-loop
+μ-loop ws from space first last i₀ i = length ws - i
+
+loop-holds : tie.Need-loop-holds Inv-loop μ-loop
+loop-holds c = (search needs, search needs, refl)
+
+record-requires : tie.Need-record-requires Inv-loop μ-loop
+record-requires c κs = search needs
+
+is-touched-requires : tie.Need-is-touched-requires Inv-loop μ-loop
+is-touched-requires c κs = search needs
+
+returns : tie.Need-returns Inv-loop μ-loop
+returns c = let a = c .before .before .before .before .before .args in let l = c .before .before .before .before .loop in any-found (touches (a .space) (range (a .first) (a .last))) (recordsOf (a .ws .now)) (l .i) (l .inv .2) zeroMapping (omega (arith, records-length (a .ws .now), c .before .before .before .loop-test .taken)) (sym (c .before .is-touched .ensures ∙ ap (touches (a .space) (range (a .first) (a .last))) (c .before .before .«record» .ensures)) ∙ c .if1 .taken)
+
+add-i : tie.Need-add-i Inv-loop μ-loop
+add-i c = search needs
+
+loop-less : tie.Need-loop-less Inv-loop μ-loop
+loop-less c = search needs
+
+loop-again : tie.Need-loop-again Inv-loop μ-loop
+loop-again c = let a = c .before .before .before .before .before .args in let l = c .before .before .before .before .loop in (search needs, search needs, any-on (touches (a .space) (range (a .first) (a .last))) (recordsOf (a .ws .now)) (l .i) (l .inv .2) zeroMapping (omega (arith, records-length (a .ws .now), c .before .before .before .loop-test .taken)) (sym (c .before .is-touched .ensures ∙ ap (touches (a .space) (range (a .first) (a .last))) (c .before .before .«record» .ensures)) ∙ c .if1 .left))
+
+returns-2 : tie.Need-returns-2 Inv-loop μ-loop
+returns-2 c = let a = c .before .before .args in let l = c .before .loop in any-end (touches (a .space) (range (a .first) (a .last))) (recordsOf (a .ws .now)) (l .i) (l .inv .2) (omega (arith, records-length (a .ws .now), c .loop-test .left))
+
+pub touched-from-spec : {M : Type 1} → statement M
+touched-from-spec =
+    tie.close
+    (tie.spec
+    Inv-loop
+    μ-loop
+    loop-holds
+    record-requires
+    is-touched-requires
+    returns
+    add-i
+    loop-less
+    loop-again
+    returns-2)

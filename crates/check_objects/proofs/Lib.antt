@@ -1,0 +1,5 @@
+pub mod Judging
+pub mod Paging
+pub mod Passing
+pub mod Skipping
+pub mod Zeroing

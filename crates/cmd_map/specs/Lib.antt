@@ -1,2 +1,0 @@
--- What the digest tells of a place. What MAP decides stands in rules_calls.
-pub mod Sites

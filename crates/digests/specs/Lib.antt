@@ -1,2 +1,0 @@
--- What the calls need to know of the objects.
-pub mod Digest

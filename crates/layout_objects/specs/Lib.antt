@@ -1,0 +1,3 @@
+-- Laws of a head's words.
+pub mod Slots
+pub mod Writing

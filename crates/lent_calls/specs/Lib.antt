@@ -1,4 +1,0 @@
--- Calls on a lent table.
-pub mod Lent
-pub mod Applied
-pub mod Endings

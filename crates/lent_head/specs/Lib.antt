@@ -1,2 +1,0 @@
--- The head of a table in the caller's memory.
-pub mod Head

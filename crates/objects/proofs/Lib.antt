@@ -1,4 +1,0 @@
-pub mod Judging
-pub mod Paging
-pub mod Passing
-pub mod Zeroing

@@ -1,3 +1,0 @@
-pub mod Sweeping
-pub mod Searching
-pub mod Joining

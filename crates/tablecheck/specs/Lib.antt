@@ -1,2 +1,0 @@
--- What comes before every command.
-pub mod Seen
