@@ -101,8 +101,8 @@ fn answer<'a>(
             cmd_space_bytes::ranges(h, a, cmd, area)
         }
         Command::Map => {
-            let a = check_mappings::page_of(pages, wire::read32(cmd, 8));
-            cmd_map_bytes::map(h, ws, p, marks, a, cmd)
+            let page = check_mappings::page_of(pages, wire::read32(cmd, 8));
+            cmd_map_bytes::map(h, ws, p, marks, page, cmd)
         }
         Command::Unmap => {
             let a = check_mappings::page_of(pages, wire::read32(cmd, 4));
