@@ -1,15 +1,17 @@
 /*
  * The map from device addresses to memory, for a kernel that links libiommufd.a (x86-64, aarch64 or riscv64).
  *
- * A table lies in the caller's memory: a head with 32 object records, and 128 mapping records. Every call answers for any contents of that memory, any bytes and
- * any numbers: a table that the rules call bad, or a count of records that is not 128, is answered with -IOMMUFD_EUCLEAN and left as it was. A refusal writes
- * nothing; the one exception is -IOMMUFD_EMSGSIZE of IOVA_RANGES, which tells the full count and writes the ranges that had room. No good table is made bad.
+ * A table lies in the caller's memory: a head with 32 object records, 128 mapping records, and an index of 128 words that lists the mapping records in use in their
+ * order. Every call answers for any contents of that memory, any bytes and any numbers: a table that the rules call bad, an index that does not agree with the records,
+ * or a count of records or of words that is not 128, is answered with -IOMMUFD_EUCLEAN and left as it was. A refusal writes nothing; the one exception is
+ * -IOMMUFD_EMSGSIZE of IOVA_RANGES, which tells the full count and writes the ranges that had room. No good table is made bad.
  *
  * What the caller owes:
+ *  - The index is part of the table, and the calls keep it: nobody else writes it, and who copies a table or keeps it for later copies its index with it.
  *  - While a call runs, nobody else writes the table, the command or the range area, and no second call runs on the same table: a lock around each. An interrupt
  *    may come at any time, on the same stack too, as long as its handler keeps away from the table; the code keeps nothing below the stack pointer.
- *  - The lent parts do not overlap, and lie where the header says that they lie: a head and records at a multiple of 8, a command and a range area anywhere. A pointer
- *    whose length or count is 0 is not followed and may be NULL; any other is not NULL. The contents have been written at some time, if only with zeros:
+ *  - The lent parts do not overlap, and lie where the header says that they lie: a head, records and an index at a multiple of 8, a command and a range area
+ *    anywhere. A pointer whose length or count is 0 is not followed and may be NULL; any other is not NULL. The contents have been written at some time, if only with zeros:
  *    iommufd_fresh is the one call that takes memory which nobody has written yet; no answer of it hangs on what was there.
  *  - IOMMUFD_STACK bytes of stack below the call of an entry; the inline function of a host call has ten words beside that, in its own frame or its caller's. A
  *    frame of more than a page touches its pages one after another, so that a guard page below the stack catches one that is too short. Where a call is made the
@@ -41,8 +43,15 @@ extern "C" {
 #endif
 IOMMUFD_SIZE(size_t, 8);
 
-/* Goes up with every change of this header or of an answer. A kernel may compare it with iommufd_archive_version, which is the one that its archive was built with. */
-#define IOMMUFD_VERSION 2
+/*
+ * Goes up with every change of this header or of an answer. A kernel may compare it with iommufd_archive_version, which is the one that its archive was built with.
+ *
+ * What changed with 3: a table has an index. struct iommufd_table is longer by it, at its end, and the iommufd_table_.. functions take what they took. Who lends
+ * a table in parts lends the index as `beside`, where nothing was lent, and iommufd_fresh and its kin take it too; two inline functions that lent nothing there
+ * have gone, and iommufd_call and iommufd_preview are what they were for. A table that was kept from before needs the index that agrees with it. With that index
+ * no answer is another, but that a host call of kind 6, iommufd_next, is none that is unknown any more.
+ */
+#define IOMMUFD_VERSION 3
 extern const uint32_t iommufd_archive_version;
 /* The commit that the archive was built from, as text, with a + behind it if the tree had changes that were not committed; `unknown` if it was no git tree. */
 extern const char iommufd_archive_commit[];
@@ -52,6 +61,7 @@ extern const char iommufd_archive_commit[];
 
 #define IOMMUFD_OBJECTS 32
 #define IOMMUFD_MAPPINGS 128
+#define IOMMUFD_INDEX_WORDS 128
 
 /* ---- the table */
 
@@ -100,12 +110,19 @@ struct iommufd_mapping {
 IOMMUFD_SIZE(struct iommufd_mapping, 40);
 IOMMUFD_ALIGN(struct iommufd_mapping, 8);
 
-/* A table whole, for a caller that holds it in one place: what iommufd_table_call and its kin below take. Later parts are added at its end. */
+/*
+ * A table whole, for a caller that holds it in one place: what iommufd_table_call and its kin below take. Later parts are added at its end.
+ *
+ * The index has the number of each mapping record in use once, n for mappings[n - 1]: the space with the lowest id first, in a space the lowest address first, and
+ * zeros behind the last. One index agrees with a table, that of an empty table is all zeros, and any other makes the table bad, whatever the call. A kernel may
+ * read it: the mappings of a space stand in it side by side, in ascending address.
+ */
 struct iommufd_table {
 	struct iommufd_head head;
 	struct iommufd_mapping mappings[IOMMUFD_MAPPINGS];
+	uint64_t index[IOMMUFD_INDEX_WORDS];
 };
-IOMMUFD_SIZE(struct iommufd_table, 12040);
+IOMMUFD_SIZE(struct iommufd_table, 13064);
 
 /* The reserved ranges of a device to bind: the first `count`, at most 4. `spare` and what stands behind them are not read. */
 struct iommufd_reserved {
@@ -170,14 +187,14 @@ static inline const char *iommufd_errno_text(int32_t result)
  * ---- the commands. A request number with the bytes of a command, little-endian, as a driver sends them.
  *
  * Before a command's own checks, for each of them, in this order:
- *   117  the table is bad
+ *   117  the table is bad, or its index another than the one that agrees with it
  *    25  the request is none of these
  *    14  fewer than 4 bytes are lent
  *    22  `size` is below the size of the command's struct
  *    14  `size` is above the number of bytes lent
  *     7  of the bytes from the struct's end up to `size` one is not zero; what is lent beyond `size` is not looked at
  * Then its own, in the order given with it; the first that fails is the answer. An accepted command writes the fields marked `written` and no other byte of the command, and
- * of the table no record that does not change.
+ * of the table no record that does not change; behind it the index agrees with the records.
  *
  * Words: the alignment of a space is the largest of its devices' smallest pages, 1 with no device. Reserved is what a device attached to the space reserves.
  */
@@ -333,17 +350,18 @@ struct iommufd_range {
 IOMMUFD_SIZE(struct iommufd_range, 16);
 
 /*
- * ---- the entries: the three functions of the archive. Every other function stands in this header and hands on to them; it is simpler to call those.
+ * ---- the entries: the three functions of the archive. Every other function stands in this header and hands on to them; for a host call, and for a table whole,
+ * it is simpler to call those.
  *
- * `count` is the number of mapping records that are lent. `beside` is for what will stand beside head and records one day; today that is nothing, and
- * `beside_count` 0.
+ * `count` is the number of mapping records that are lent. `beside` is what stands beside head and records, as words: the index, and `beside_count` is the number of
+ * its words. Either count has to be 128, or the table is bad.
  */
 
 /* A driver's command: 0, or the negative of the first check that fails. */
 int32_t iommufd_call(struct iommufd_head *head, struct iommufd_mapping *mappings, size_t count, uint64_t *beside, size_t beside_count, uint32_t request,
                      void *command, size_t command_size, void *area, size_t area_size);
 
-/* What iommufd_call would answer now, with the same bytes written into the command and the range area; the table is only read. */
+/* What iommufd_call would answer now, with the same bytes written into the command and the range area; the table is only read, its index too. */
 int32_t iommufd_preview(const struct iommufd_head *head, const struct iommufd_mapping *mappings, size_t count, const uint64_t *beside, size_t beside_count,
                         uint32_t request, void *command, size_t command_size, void *area, size_t area_size);
 
@@ -355,12 +373,13 @@ enum iommufd_host_kind {
 	IOMMUFD_HOST_DETACH = 3, /* device */
 	IOMMUFD_HOST_REACH = 4,  /* device, address, length, write */
 	IOMMUFD_HOST_CHARGE = 5, /* none */
+	IOMMUFD_HOST_NEXT = 6,   /* space, address */
 };
 #define IOMMUFD_HOST_WORDS 10
 
 /*
  * A host call: its kind, and its numbers in ten words at least. Of an id and of a count the low half of the word is read. The result is 0, and then the first
- * word is what the call tells: bind's id, reach's memory, charge's pages, 0 for attach and detach; fresh leaves it. Or, and then words and table stay,
+ * word is what the call tells: bind's id, reach's memory, charge's pages, next's record, 0 for attach and detach; fresh leaves it. Or, and then words and table stay,
  *    -14  fewer than ten words
  *    -25  the kind is none of these, whatever the table is
  * and behind these two what stands with the call's own function below.
@@ -368,32 +387,22 @@ enum iommufd_host_kind {
 int32_t iommufd_host(struct iommufd_head *head, struct iommufd_mapping *mappings, size_t count, uint64_t *beside, size_t beside_count, uint32_t kind,
                      uint64_t *words, size_t words_count);
 
-/* ---- the calls, for who holds the parts of a table where they like; the names below them take a table whole. */
-
-/* iommufd_call with nothing beside the table. */
-static inline int32_t iommufd_command(struct iommufd_head *head, struct iommufd_mapping *mappings, size_t count, uint32_t request, void *command,
-                                      size_t command_size, void *area, size_t area_size)
-{
-	return iommufd_call(head, mappings, count, &head->limit, 0, request, command, command_size, area, area_size);
-}
-
-/* iommufd_preview with nothing beside the table. */
-static inline int32_t iommufd_command_preview(const struct iommufd_head *head, const struct iommufd_mapping *mappings, size_t count, uint32_t request,
-                                              void *command, size_t command_size, void *area, size_t area_size)
-{
-	return iommufd_preview(head, mappings, count, &head->limit, 0, request, command, command_size, area, area_size);
-}
+/*
+ * ---- the host calls, for who holds the parts of a table where they like, with the index as `beside`; the names below them take a table whole. "The table is bad" is
+ * also said of an index that does not agree. An accepted call leaves one that does.
+ */
 
 /*
- * Writes an empty table with a charge limit in pages, over whatever the memory held: 0, or
- *   -117  `count` is not 128
+ * Writes an empty table with a charge limit in pages, over whatever the memory held, with zeros for an index: 0, or
+ *   -117  `count` or `beside_count` is not 128
  *    -22  the limit is above 2^36
  */
-static inline int32_t iommufd_fresh(struct iommufd_head *head, struct iommufd_mapping *mappings, size_t count, uint64_t limit)
+static inline int32_t iommufd_fresh(struct iommufd_head *head, struct iommufd_mapping *mappings, size_t count, uint64_t *beside, size_t beside_count,
+                                    uint64_t limit)
 {
 	uint64_t words[IOMMUFD_HOST_WORDS] = { limit };
 
-	return iommufd_host(head, mappings, count, words, 0, IOMMUFD_HOST_FRESH, words, IOMMUFD_HOST_WORDS);
+	return iommufd_host(head, mappings, count, beside, beside_count, IOMMUFD_HOST_FRESH, words, IOMMUFD_HOST_WORDS);
 }
 
 /*
@@ -402,7 +411,8 @@ static inline int32_t iommufd_fresh(struct iommufd_head *head, struct iommufd_ma
  *    -22  no page size, or the smallest above 4,096; more than 4 ranges; a start above its last
  *    -12  no object record is free
  */
-static inline int32_t iommufd_bind(struct iommufd_head *head, struct iommufd_mapping *mappings, size_t count, uint64_t bitmap, struct iommufd_reserved reserved)
+static inline int32_t iommufd_bind(struct iommufd_head *head, struct iommufd_mapping *mappings, size_t count, uint64_t *beside, size_t beside_count,
+                                   uint64_t bitmap, struct iommufd_reserved reserved)
 {
 	uint64_t words[IOMMUFD_HOST_WORDS] = {
 		bitmap,
@@ -416,7 +426,7 @@ static inline int32_t iommufd_bind(struct iommufd_head *head, struct iommufd_map
 		reserved.lasts[2],
 		reserved.lasts[3],
 	};
-	int32_t result = iommufd_host(head, mappings, count, words, 0, IOMMUFD_HOST_BIND, words, IOMMUFD_HOST_WORDS);
+	int32_t result = iommufd_host(head, mappings, count, beside, beside_count, IOMMUFD_HOST_BIND, words, IOMMUFD_HOST_WORDS);
 
 	return result < 0 ? result : (int32_t)words[0];
 }
@@ -430,11 +440,12 @@ static inline int32_t iommufd_bind(struct iommufd_head *head, struct iommufd_map
  *    -98  one of its ranges touches a mapping or the allow list of the space
  *    -98  a mapping of the space does not fit the alignment that the space would get
  */
-static inline int32_t iommufd_attach(struct iommufd_head *head, struct iommufd_mapping *mappings, size_t count, uint32_t device, uint32_t space)
+static inline int32_t iommufd_attach(struct iommufd_head *head, struct iommufd_mapping *mappings, size_t count, uint64_t *beside, size_t beside_count,
+                                     uint32_t device, uint32_t space)
 {
 	uint64_t words[IOMMUFD_HOST_WORDS] = { device, space };
 
-	return iommufd_host(head, mappings, count, words, 0, IOMMUFD_HOST_ATTACH, words, IOMMUFD_HOST_WORDS);
+	return iommufd_host(head, mappings, count, beside, beside_count, IOMMUFD_HOST_ATTACH, words, IOMMUFD_HOST_WORDS);
 }
 
 /*
@@ -443,16 +454,17 @@ static inline int32_t iommufd_attach(struct iommufd_head *head, struct iommufd_m
  *     -2  no such device
  *    -22  it is attached to nothing
  */
-static inline int32_t iommufd_detach(struct iommufd_head *head, struct iommufd_mapping *mappings, size_t count, uint32_t device)
+static inline int32_t iommufd_detach(struct iommufd_head *head, struct iommufd_mapping *mappings, size_t count, uint64_t *beside, size_t beside_count,
+                                     uint32_t device)
 {
 	uint64_t words[IOMMUFD_HOST_WORDS] = { device };
 
-	return iommufd_host(head, mappings, count, words, 0, IOMMUFD_HOST_DETACH, words, IOMMUFD_HOST_WORDS);
+	return iommufd_host(head, mappings, count, beside, beside_count, IOMMUFD_HOST_DETACH, words, IOMMUFD_HOST_WORDS);
 }
 
 /*
  * The memory that a device gets to with `length` bytes at an address: for reading where `write` is 0, else for writing. The table is only read: of this kind and
- * of the next the entry writes neither head nor records, so that the casts, which take `const` away, are right. 0 beside the memory's address exactly where the
+ * of the two below it the entry writes neither head nor records nor index, so that the casts, which take `const` away, are right. 0 beside the memory's address exactly where the
  * bytes lie wholly inside one mapping of the device's space that has the right; else 0 beside
  *   -117  the table is bad
  *     -2  no such device
@@ -462,70 +474,104 @@ static inline int32_t iommufd_detach(struct iommufd_head *head, struct iommufd_m
  *    -14  not wholly inside one mapping
  *     -1  the mapping has not the right
  */
-static inline struct iommufd_number iommufd_reach(const struct iommufd_head *head, const struct iommufd_mapping *mappings, size_t count, uint32_t device,
-                                                  uint64_t address, uint64_t length, uint32_t write)
+static inline struct iommufd_number iommufd_reach(const struct iommufd_head *head, const struct iommufd_mapping *mappings, size_t count, const uint64_t *beside,
+                                                  size_t beside_count, uint32_t device, uint64_t address, uint64_t length, uint32_t write)
 {
 	uint64_t words[IOMMUFD_HOST_WORDS] = { device, address, length, write };
 	struct iommufd_number number;
 
-	number.result = iommufd_host((struct iommufd_head *)(uintptr_t)head, (struct iommufd_mapping *)(uintptr_t)mappings, count, words, 0, IOMMUFD_HOST_REACH,
-	                             words, IOMMUFD_HOST_WORDS);
+	number.result = iommufd_host((struct iommufd_head *)(uintptr_t)head, (struct iommufd_mapping *)(uintptr_t)mappings, count, (uint64_t *)(uintptr_t)beside,
+	                             beside_count, IOMMUFD_HOST_REACH, words, IOMMUFD_HOST_WORDS);
 	number.value = number.result < 0 ? 0 : words[0];
 	return number;
 }
 
 /* The pages of all backings, each counted once; it never passes the limit. -117 if the table is bad. The table is only read. */
-static inline struct iommufd_number iommufd_charge(const struct iommufd_head *head, const struct iommufd_mapping *mappings, size_t count)
+static inline struct iommufd_number iommufd_charge(const struct iommufd_head *head, const struct iommufd_mapping *mappings, size_t count, const uint64_t *beside,
+                                                   size_t beside_count)
 {
 	uint64_t words[IOMMUFD_HOST_WORDS] = { 0 };
 	struct iommufd_number number;
 
-	number.result = iommufd_host((struct iommufd_head *)(uintptr_t)head, (struct iommufd_mapping *)(uintptr_t)mappings, count, words, 0, IOMMUFD_HOST_CHARGE,
-	                             words, IOMMUFD_HOST_WORDS);
+	number.result = iommufd_host((struct iommufd_head *)(uintptr_t)head, (struct iommufd_mapping *)(uintptr_t)mappings, count, (uint64_t *)(uintptr_t)beside,
+	                             beside_count, IOMMUFD_HOST_CHARGE, words, IOMMUFD_HOST_WORDS);
 	number.value = number.result < 0 ? 0 : words[0];
 	return number;
 }
 
-/* ---- the same for a table whole. What stands beside head and records one day is handed on here, and no argument below changes for it. */
+/*
+ * The mapping with the lowest address among those of a space that end at an address or behind it. The result is the number of its record, 1 to 128, n for
+ * mappings[n - 1]; 0 where there is none; or
+ *   -117  the table is bad
+ *     -2  no such space
+ * The table is only read. It is for who has something to do for each mapping of a range, such as to unpin what an UNMAP or a DESTROY takes. Before that call
+ * runs, under the lock that holds until it has, from `address` to `last`:
+ *
+ *	for (a = address; (r = iommufd_next(.., space, a)) > 0 && mappings[r - 1].address <= last; a = end + 1) {
+ *		.. note mappings[r - 1]: its address, length, memory, rights ..
+ *		end = mappings[r - 1].address + (mappings[r - 1].length - 1);
+ *		if (end == UINT64_MAX)
+ *			break;
+ *	}
+ *
+ * It sees every mapping that shares an address with the range, in ascending address, each once. These are what an accepted UNMAP of the range takes, which cuts
+ * none. From 0 to UINT64_MAX they are what an accepted DESTROY of the space takes, and an UNMAP of address 0 with length 2^64 - 1.
+ */
+static inline int32_t iommufd_next(const struct iommufd_head *head, const struct iommufd_mapping *mappings, size_t count, const uint64_t *beside,
+                                   size_t beside_count, uint32_t space, uint64_t address)
+{
+	uint64_t words[IOMMUFD_HOST_WORDS] = { space, address };
+	int32_t result = iommufd_host((struct iommufd_head *)(uintptr_t)head, (struct iommufd_mapping *)(uintptr_t)mappings, count,
+	                              (uint64_t *)(uintptr_t)beside, beside_count, IOMMUFD_HOST_NEXT, words, IOMMUFD_HOST_WORDS);
+
+	return result < 0 ? result : (int32_t)words[0];
+}
+
+/* ---- the calls for a table whole. What stands beside head and records is handed on here, and no argument below changes for it. */
 
 static inline int32_t iommufd_table_fresh(struct iommufd_table *table, uint64_t limit)
 {
-	return iommufd_fresh(&table->head, table->mappings, IOMMUFD_MAPPINGS, limit);
+	return iommufd_fresh(&table->head, table->mappings, IOMMUFD_MAPPINGS, table->index, IOMMUFD_INDEX_WORDS, limit);
 }
 
 static inline int32_t iommufd_table_call(struct iommufd_table *table, uint32_t request, void *command, size_t command_size, void *area, size_t area_size)
 {
-	return iommufd_command(&table->head, table->mappings, IOMMUFD_MAPPINGS, request, command, command_size, area, area_size);
+	return iommufd_call(&table->head, table->mappings, IOMMUFD_MAPPINGS, table->index, IOMMUFD_INDEX_WORDS, request, command, command_size, area, area_size);
 }
 
 static inline int32_t iommufd_table_preview(const struct iommufd_table *table, uint32_t request, void *command, size_t command_size, void *area, size_t area_size)
 {
-	return iommufd_command_preview(&table->head, table->mappings, IOMMUFD_MAPPINGS, request, command, command_size, area, area_size);
+	return iommufd_preview(&table->head, table->mappings, IOMMUFD_MAPPINGS, table->index, IOMMUFD_INDEX_WORDS, request, command, command_size, area, area_size);
 }
 
 static inline int32_t iommufd_table_bind(struct iommufd_table *table, uint64_t bitmap, const struct iommufd_reserved *reserved)
 {
-	return iommufd_bind(&table->head, table->mappings, IOMMUFD_MAPPINGS, bitmap, *reserved);
+	return iommufd_bind(&table->head, table->mappings, IOMMUFD_MAPPINGS, table->index, IOMMUFD_INDEX_WORDS, bitmap, *reserved);
 }
 
 static inline int32_t iommufd_table_attach(struct iommufd_table *table, uint32_t device, uint32_t space)
 {
-	return iommufd_attach(&table->head, table->mappings, IOMMUFD_MAPPINGS, device, space);
+	return iommufd_attach(&table->head, table->mappings, IOMMUFD_MAPPINGS, table->index, IOMMUFD_INDEX_WORDS, device, space);
 }
 
 static inline int32_t iommufd_table_detach(struct iommufd_table *table, uint32_t device)
 {
-	return iommufd_detach(&table->head, table->mappings, IOMMUFD_MAPPINGS, device);
+	return iommufd_detach(&table->head, table->mappings, IOMMUFD_MAPPINGS, table->index, IOMMUFD_INDEX_WORDS, device);
 }
 
 static inline struct iommufd_number iommufd_table_reach(const struct iommufd_table *table, uint32_t device, uint64_t address, uint64_t length, uint32_t write)
 {
-	return iommufd_reach(&table->head, table->mappings, IOMMUFD_MAPPINGS, device, address, length, write);
+	return iommufd_reach(&table->head, table->mappings, IOMMUFD_MAPPINGS, table->index, IOMMUFD_INDEX_WORDS, device, address, length, write);
 }
 
 static inline struct iommufd_number iommufd_table_charge(const struct iommufd_table *table)
 {
-	return iommufd_charge(&table->head, table->mappings, IOMMUFD_MAPPINGS);
+	return iommufd_charge(&table->head, table->mappings, IOMMUFD_MAPPINGS, table->index, IOMMUFD_INDEX_WORDS);
+}
+
+static inline int32_t iommufd_table_next(const struct iommufd_table *table, uint32_t space, uint64_t address)
+{
+	return iommufd_next(&table->head, table->mappings, IOMMUFD_MAPPINGS, table->index, IOMMUFD_INDEX_WORDS, space, address);
 }
 
 #ifdef __cplusplus

@@ -25,14 +25,18 @@ COMPILE = ['gcc', '-std=c11', '-O0', '-Wall', '-Wextra', '-Wpedantic', '-Werror'
 
 # What nothing that is linked or run can tell, each with its reason.
 BY_NAME = 'no entry takes it: the inline functions hand on its fields by their names, so their order is the caller\'s own'
+BOTH_128 = 'each has to be 128 or the table is bad, so that no answer tells one from the other'
 EXEMPT = {
     'fields: iommufd_table: head, mappings': BY_NAME,
+    'fields: iommufd_table: head, index': BY_NAME,
+    'fields: iommufd_table: mappings, index': BY_NAME,
     'fields: iommufd_reserved: count, spare': BY_NAME,
     'fields: iommufd_reserved: count, starts': BY_NAME,
     'fields: iommufd_reserved: starts, lasts': BY_NAME,
     'fields: iommufd_number: result, value': BY_NAME,
-    'handed on: iommufd_fresh: 0, IOMMUFD_HOST_FRESH': 'both are 0',
 }
+for _of in ('fresh', 'call', 'preview', 'bind', 'attach', 'detach', 'reach', 'charge', 'next'):
+    EXEMPT[f'handed on: iommufd_table_{_of}: IOMMUFD_MAPPINGS, IOMMUFD_INDEX_WORDS'] = BOTH_128
 # Constants that stand for nothing an entry does: the guard, the checks of size and alignment, and the stack, which tests/archive.py measures.
 ASIDE = {'IOMMUFD_H', 'IOMMUFD_SIZE', 'IOMMUFD_ALIGN', 'IOMMUFD_STACK'}
 
@@ -143,7 +147,7 @@ def exchanged(text, one, other):
 
 def pairs(text, name, parts, wide=False):
     for one, other in combinations(parts, 2):
-        if one.name != other.name:
+        if one.name != other.name and text[one.start:one.end] != text[other.start:other.end]:
             yield Exchange(f'{name}: {one.name}, {other.name}', exchanged(text, one, other), wide or one.type != other.type)
 
 
@@ -188,7 +192,7 @@ NAMES = {'h': ['head'], 'ms': ['mappings', 'count'], 'beside': ['beside', 'besid
 
 def proved():
     """The prototypes of the proved entries."""
-    for e in re.finditer(r'pub extern "C" fn (\w+)\(([^)]*)\) -> (\w+)', read(ENTRIES)):
+    for e in re.finditer(r'pub extern "C" fn (\w+)(?:<\'\w+>)?\(([^)]*)\) -> (\w+)', re.sub(r"&'\w+ ", '&', read(ENTRIES))):
         given = []
         for name, kind in re.findall(r'(\w+): ([^,]+?)\s*(?:,|$)', e[2]):
             names = NAMES.get(name, [name])
@@ -274,8 +278,8 @@ def try_all(every, each):
                 wrong.append(f'not noticed: {x.name}')
     if every:
         wrong += [f'exempt, and never tried: {name}' for name in EXEMPT if name not in exempt]
-    for name in sorted(exempt):
-        print(f'exchanges: exempt: {name}: {EXEMPT[name]}')
+    for reason in dict.fromkeys(EXEMPT[name] for name in sorted(exempt)):
+        print(f'exchanges: exempt: {reason}: ' + '; '.join(name for name in sorted(exempt) if EXEMPT[name] == reason))
     print(f'exchanges: {sum(kinds.values())} tried: ' + ', '.join(f'{n} {kind}' for kind, n in kinds.items()))
     print(f'exchanges: {sum(noticers.values())} noticed: ' + ', '.join(f'{n} by {by}' for by, n in noticers.items()))
     for words in wrong:

@@ -30,9 +30,11 @@ static void make(unsigned mappings)
 	iommufd_table_call(&table, IOMMUFD_IOAS_ALLOC, &alloc, sizeof alloc, NULL, 0);
 	iommufd_table_bind(&table, 0x1000, &reserved);
 	iommufd_table_attach(&table, 2, 1);
-	for (uint32_t i = 0; i < mappings; i++)
+	for (uint32_t i = 0; i < mappings; i++) {
+		table.index[i] = i + 1;
 		table.mappings[i] = (struct iommufd_mapping){ .space = 1, .rights = IOMMUFD_RIGHT_WRITE | IOMMUFD_RIGHT_READ, .founder = 1, .backing = i + 1,
 		                                              .address = (uint64_t)SLOT * i, .length = LENGTH, .memory = 0x100000 * (1 + (uint64_t)i) };
+	}
 }
 
 static void told(const char *call, unsigned mappings, int32_t wanted, int32_t got)

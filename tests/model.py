@@ -1,7 +1,8 @@
 """The table and its calls as document 01 says them, written apart from the Rattle code.
 
 Addresses are Python ranges, so that nothing is computed as the Rattle code computes it. A call is a function of a good table; what it
-refuses is raised with its errno and the name of the check.
+refuses is raised with its errno and the name of the check. A table is a value here, as plans and stored runs have it: the index that stands
+beside one in a caller's memory is not part of it (tests/outside has that).
 """
 import struct
 from collections import namedtuple

@@ -281,11 +281,52 @@ CHARGE = [
     Mutation('charge: end page not counted', TABLE, 'memory.last / PAGE - memory.first / PAGE + 1',
              '(memory.last + 1) / PAGE - memory.first / PAGE + 1'),
     Mutation('charge: each mapping counts', TABLE, 'self.backings().into_iter().flatten().map(|mapping| pages', 'self.mapped().map(|mapping| pages'),
+    Mutation('next: the ends after the address alone', HOST, 'mapping.addresses().last >= address', 'mapping.addresses().last > address'),
+    Mutation('next: the beginnings from the address on', HOST, 'mapping.addresses().last >= address', 'mapping.address >= address'),
+    Mutation('next: the lowest record', HOST, 'ending.min_by_key(|(_, mapping)| mapping.address)', 'ending.min_by_key(|(number, _)| *number)'),
+    Mutation('next: the highest address', HOST, 'ending.min_by_key(', 'ending.max_by_key('),
+    Mutation('next: the mappings of every space', HOST, 'mapping.space == space && mapping.addresses().last >= address',
+             'mapping.addresses().last >= address'),
+    Mutation('next: records from 0', HOST, 'NEXT.give(0, number, ', 'NEXT.give(0, number - 1, '),
+    Mutation('next: none is 2', HOST, 'None => NEXT.give(0, 0, "done, none")', 'None => Err(NEXT.check(2, "no such space"))'),
+    Mutation('next: an object of any kind is a space', HOST, 'NEXT.refuse(!table.is_space(space), 2', 'NEXT.refuse(table.object(space).is_none(), 2'),
     Mutation('preview: the table changes', FIRST, 'Call::Preview { request, bytes, area } => look(',
              'Call::Preview { request, bytes, area } => change('),
 ]
 
+KEEPS = 'table.index = table.agreeing();'                               # where the model keeps the index
+INDEX = [
+    Mutation('index: order by address alone', TABLE, '(mapping.space, mapping.address));', 'mapping.address);'),
+    Mutation('index: order by record in a space', TABLE, '(mapping.space, mapping.address));', 'mapping.space);'),
+    Mutation('index: spaces from the highest on', TABLE, '(mapping.space, mapping.address));',
+             '(std::cmp::Reverse(mapping.space), mapping.address));'),
+    Mutation('index: records from 0', TABLE, '(1..).zip(&self.mappings).filter_map(', '(0..).zip(&self.mappings).filter_map('),
+    Mutation('index: a new record one place late', FIRST, KEEPS,
+             'let new = table.agreeing();\n    let old = std::mem::replace(&mut table.index, new);\n'
+             '    if let Some(at) = (0..127).find(|at| !old.contains(&table.index[*at]) && table.index[at + 1] != 0) {\n'
+             '        table.index.swap(at, at + 1);\n    }'),
+    Mutation('index: a new record at the end', FIRST, KEEPS,
+             'let new = table.agreeing();\n    let mut kept = table.index.iter().copied().filter(|number| new.contains(number) && *number != 0).collect::<Vec<_>>();\n'
+             '    kept.extend(new.iter().filter(|number| **number != 0 && !table.index.contains(number)));\n'
+             '    kept.resize(128, 0);\n    table.index = kept;'),
+    Mutation('index: a removed record is kept', FIRST, KEEPS,
+             'let new = table.agreeing();\n    if table.index.iter().all(|number| new.contains(number)) {\n        table.index = new;\n    }'),
+    Mutation('index: no zeros behind a removal', FIRST, KEEPS,
+             'let new = table.agreeing();\n    let listed = new.iter().filter(|number| **number != 0).count();\n'
+             '    table.index[..listed].copy_from_slice(&new[..listed]);'),
+    Mutation('index: not asked', TABLE, 'match TABLE_RULES.iter().find(',
+             'match TABLE_RULES.iter().filter(|(name, _)| !name.contains("the index")).find('),
+    Mutation('index: low half of a word', TABLE, '*number > MAPPINGS as u64)),', '*number as u32 > MAPPINGS as u32)),'),
+    Mutation('index: the last word not asked', TABLE, 'table.index.windows(2).any(', 'table.index[..INDEX_WORDS - 1].windows(2).any('),
+    Mutation('fresh: the index stays', HOST, 'Table::empty(limit).store(lent);',
+             'let kept = lent.index.clone();\n    Table::empty(limit).store(lent);\n    lent.index = kept;'),
+    Mutation('fresh: words of the index not counted', HOST, 'has_other_than_128_words(lent), 117', 'lent.index.is_empty(), 117'),
+]
+
 BAD = [no_rule('lent', words) for words in (
+    'no index is lent',
+    'the index has fewer than 128 words',
+    'the index has more than 128 words',
     'an object record is neither free, a space nor a device',
     'a free object record is not zero',
     'a field that a space does not use is not zero',
@@ -321,6 +362,13 @@ BAD = [no_rule('lent', words) for words in (
     'mappings of one backing differ in the founding right to write',
     'a mapping may write without the founding right',
     'the limit is below the charge',
+    'the index has a number past 128',
+    'the index has a number behind a zero',
+    'the index lists a released record',
+    'the index lists a record twice',
+    'the index misses a mapping',
+    'the index has the spaces out of order',
+    'the index has the addresses of a space out of order',
 )] + [
     Mutation('bad table: more than 128 records are fine', TABLE, 'lent.mappings.len() != MAPPINGS', 'lent.mappings.len() < MAPPINGS'),
     Mutation('bad table: length 2^40', TABLE, 'mapping.length > LONGEST_MAPPING', 'mapping.length >= LONGEST_MAPPING'),
@@ -340,7 +388,7 @@ BAD = [no_rule('lent', words) for words in (
     Mutation('bad table: a founder without a writer', TABLE, 'mapping.write && !mapping.founder_write', 'mapping.write != mapping.founder_write'),
 ]
 
-MUTATIONS = OPENING + MAP + PLACE + COPY + UNMAP + ALLOW + RANGES + OBJECTS + HOST_CALLS + CHARGE + BAD
+MUTATIONS = OPENING + MAP + PLACE + COPY + UNMAP + ALLOW + RANGES + OBJECTS + HOST_CALLS + CHARGE + INDEX + BAD
 
 
 class Faulty(Exception):

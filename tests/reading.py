@@ -13,7 +13,8 @@ import re
 import sys
 
 ROOT = os.path.join(os.path.dirname(os.path.abspath(__file__)), '..')
-MOST = 1000
+# 1,000 for document 01; the index of L9 adds what it is, when it is another, and how it follows a change
+MOST = 1100
 # the public contracts: a crate and its functions, or all that it exports
 CONTRACTS = [('boundary', None), ('iommufd', ['fresh', 'call', 'bind', 'attach', 'detach', 'reach'])]
 # README's table whose theorems are followed
@@ -30,12 +31,18 @@ ORDER = [
     ('What a call changes and gives back', '"A refusal writes nothing"', ['rules_calls/specs/Edits.antt', 'rules_calls/specs/Answers.antt']),
     ('MAP, COPY, UNMAP', 'Rules of the commands', ['rules_calls/specs/Landing.antt', 'rules_calls/specs/Map.antt', 'rules_calls/specs/Copy.antt', 'rules_calls/specs/Unmap.antt']),
     ('ALLOW_IOVAS, IOVA_RANGES, IOAS_ALLOC, DESTROY', 'Rules of the commands', ['rules_calls/specs/Allow.antt', 'rules_calls/specs/Ranges.antt', 'rules_calls/specs/Objects.antt']),
-    ('Bind, attach, detach, reach', 'Host calls', ['rules_calls/specs/Bind.antt', 'rules_calls/specs/Attach.antt', 'rules_calls/specs/Reach.antt', 'rules_calls/specs/Orders.antt']),
+    ('Bind, attach, detach, reach, next', 'Host calls', ['rules_calls/specs/Bind.antt', 'rules_calls/specs/Attach.antt', 'rules_calls/specs/Reach.antt', 'rules_calls/specs/Next.antt', 'rules_calls/specs/Orders.antt']),
     ('The door', '"Opening a command, in order"', ['rules_calls/specs/Call.antt', 'rules_calls/specs/Named.antt']),
+    ('The index', 'Document 02: L9, "Find the mapping without reading all 128 records"', ['rules_index/specs/Index.antt', 'rules_index/specs/Board.antt']),
     ('Sequences of calls', "Demand 3's ledger", ['rules_history/specs/Calls.antt', 'rules_history/specs/Ledger.antt', 'rules_history/specs/Told.antt']),
     ('Isolation', '"A call on one space changes no mapping, list or device of another"', ['rules_table/specs/Untouched.antt', 'rules_history/specs/Alike.antt']),
-    ("The caller's memory", '"A lent slice of mapping records"', ['rules_table/specs/Layout.antt', 'rules_table/specs/Words.antt', 'rules_lent/specs/Lent.antt', 'rules_lent/specs/Entries.antt', 'rules_lent/specs/Sequence.antt']),
+    ("The caller's memory", '"A lent slice of mapping records"', ['rules_table/specs/Layout.antt', 'rules_table/specs/Words.antt', 'rules_lent/specs/Lent.antt', 'rules_lent/specs/Entries.antt', 'rules_lent/specs/Boards.antt', 'rules_lent/specs/Sequence.antt']),
 ]
+
+# a paper is document 01 where it does not say another
+def named(paper):
+    return paper if paper.startswith('Document') else f'Document 01: {paper}'
+
 
 NAME = r'[^\s(){}.;,@"«»]+'
 TOKEN = re.compile(r'--[^\n]*|"(?:[^"\\]|\\.)*"|' + NAME + r'|[(){}.;,@]')
@@ -328,7 +335,7 @@ def reading(texts):
         here = ['crates/' + p for p in paths if 'crates/' + p in files]
         if here:
             step += 1
-            out += [f'### {step}. {title}', '', f'Document 01: {paper}.', ''] + file_rows(files, here) + ['']
+            out += [f'### {step}. {title}', '', f'{named(paper)}.', ''] + file_rows(files, here) + ['']
     out += ['### The ground', ''] + file_rows(files, [p for c in ground for p in sorted(files) if p.split('/')[1] == c])
 
     files = by_file(tree, more)
@@ -336,7 +343,7 @@ def reading(texts):
     for title, paper, paths in ORDER:
         here = ['crates/' + p for p in paths if 'crates/' + p in files]
         if here:
-            out += [f'### {title}', '', f'Document 01: {paper}.', ''] + file_rows(files, here) + ['']
+            out += [f'### {title}', '', f'{named(paper)}.', ''] + file_rows(files, here) + ['']
     here = [p for c in ground for p in sorted(files) if p.split('/')[1] == c]
     if here:
         out += ['### The ground, for the theorems', ''] + file_rows(files, here) + ['']

@@ -51,10 +51,27 @@ static uint64_t map(const char *what, uint32_t space, uint32_t flags, uint64_t m
 	return map.address;
 }
 
+/* What a kernel has to unpin once a range is unmapped: every mapping there, told before the call. */
+static void print_going(uint32_t space, uint64_t address, uint64_t last)
+{
+	uint64_t a, end;
+	int32_t r;
+
+	for (a = address; (r = iommufd_table_next(&table, space, a)) > 0 && table.mappings[r - 1].address <= last; a = end + 1) {
+		const struct iommufd_mapping *m = &table.mappings[r - 1];
+
+		printf("  to unpin: 0x%llx bytes from memory 0x%llx\n", (unsigned long long)m->length, (unsigned long long)m->memory);
+		end = m->address + (m->length - 1);
+		if (end == UINT64_MAX)
+			break;
+	}
+}
+
 static void unmap(const char *what, uint32_t space, uint64_t address, uint64_t length)
 {
 	struct iommufd_unmap_cmd unmap = { .size = sizeof unmap, .space = space, .address = address, .length = length };
 
+	print_going(space, address, address == 0 && length == UINT64_MAX ? UINT64_MAX : address + (length - 1));
 	step(what, call(IOMMUFD_UNMAP, &unmap, sizeof unmap), 0);
 	printf("%-44s 0x%llx\n", "bytes removed", (unsigned long long)unmap.length);
 }
@@ -76,31 +93,32 @@ static void charge(void)
 	printf("%-44s %llu pages\n", "charge", (unsigned long long)n.value);
 }
 
-/* The mapping of a space that comes after another by its address, or the first; NULL if there is none. */
-static const struct iommufd_mapping *mapping_after(uint32_t space, const struct iommufd_mapping *one)
-{
-	const struct iommufd_mapping *next = NULL;
-
-	for (size_t i = 0; i < IOMMUFD_MAPPINGS; i++) {
-		const struct iommufd_mapping *m = &table.mappings[i];
-
-		if (m->space == space && (one == NULL || m->address > one->address) && (next == NULL || m->address < next->address))
-			next = m;
-	}
-	return next;
-}
-
-/* The mappings of a space by their addresses. */
+/* The mappings of a space in ascending address, as the index lists them. */
 static void print_space(uint32_t space)
 {
-	const struct iommufd_mapping *m = mapping_after(space, NULL);
+	size_t mapped = 0;
 
 	printf("space %u\n", (unsigned)space);
-	if (m == NULL)
-		printf("  nothing mapped\n");
-	for (; m != NULL; m = mapping_after(space, m))
+	for (size_t i = 0; i < IOMMUFD_INDEX_WORDS && table.index[i] != 0; i++) {
+		const struct iommufd_mapping *m = &table.mappings[table.index[i] - 1];
+
+		if (m->space != space)
+			continue;
+		mapped++;
 		printf("  0x%08llx to 0x%08llx -> memory 0x%08llx  %c%c  backing %u\n", (unsigned long long)m->address, (unsigned long long)(m->address + (m->length - 1)),
 		       (unsigned long long)m->memory, m->rights & IOMMUFD_RIGHT_READ ? 'r' : '-', m->rights & IOMMUFD_RIGHT_WRITE ? 'w' : '-', (unsigned)m->backing);
+	}
+	if (mapped == 0)
+		printf("  nothing mapped\n");
+}
+
+/* Exchanges the first two mappings of the index. */
+static void exchange(void)
+{
+	uint64_t first = table.index[0];
+
+	table.index[0] = table.index[1];
+	table.index[1] = first;
 }
 
 int main(void)
@@ -145,17 +163,23 @@ int main(void)
 	charge();
 	print_space(left);
 	print_space(right);
+	step("a mapping of the left camera from 0x6000 on", iommufd_table_next(&table, left, 0x6000), 0);
+	step("a mapping of what is no space", iommufd_table_next(&table, left_camera, 0), -IOMMUFD_ENOENT);
 	reach("left camera writes where the buffer was", left_camera, private_at, 1, 1);
 
 	map("the last page of all addresses", right, IOMMUFD_READABLE | IOMMUFD_FIXED, 0x400000, 0x1000, UINT64_MAX - 0xFFF, 0);
 	print_space(right);
+	exchange();
+	step("an index that is out of order", iommufd_table_reach(&table, right_camera, 0, 1, 0).result, -IOMMUFD_EUCLEAN);
+	exchange();
 	unmap("everything of the right camera goes", right, 0, UINT64_MAX);
 	print_space(right);
 
 	table.head.objects[5].kind = 7;
 	step("a kind that is none", call(IOMMUFD_DESTROY, &(struct iommufd_destroy_cmd){ .size = 8, .id = left }, 8), -IOMMUFD_EUCLEAN);
 	table.head.objects[5].kind = IOMMUFD_FREE;
-	step("127 records lent", iommufd_detach(&table.head, table.mappings, IOMMUFD_MAPPINGS - 1, left_camera), -IOMMUFD_EUCLEAN);
+	step("127 records lent", iommufd_detach(&table.head, table.mappings, IOMMUFD_MAPPINGS - 1, table.index, IOMMUFD_INDEX_WORDS, left_camera), -IOMMUFD_EUCLEAN);
+	step("no index lent", iommufd_detach(&table.head, table.mappings, IOMMUFD_MAPPINGS, NULL, 0, left_camera), -IOMMUFD_EUCLEAN);
 	step("left camera detached", iommufd_table_detach(&table, left_camera), 0);
 	step("its space destroyed", call(IOMMUFD_DESTROY, &(struct iommufd_destroy_cmd){ .size = 8, .id = left }, 8), 0);
 	charge();

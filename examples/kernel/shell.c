@@ -65,11 +65,21 @@ static uint32_t rights_of(uint32_t flags)
 	return (flags & IOMMUFD_WRITEABLE ? IOMMUFD_RIGHT_WRITE : 0) | (flags & IOMMUFD_READABLE ? IOMMUFD_RIGHT_READ : 0);
 }
 
+/* The mapping that stands at a place of the index, or NULL behind the last. */
+static const struct iommufd_mapping *listed(const struct shell *k, size_t place)
+{
+	const uint64_t number = place < IOMMUFD_INDEX_WORDS ? k->table.index[place] : 0;
+
+	return number ? &k->table.mappings[number - 1] : NULL;
+}
+
 static uint64_t memory_at(const struct shell *k, uint32_t space, uint64_t address)
 {
-	for (size_t i = 0; i < IOMMUFD_MAPPINGS; i++)
-		if (k->table.mappings[i].space == space && k->table.mappings[i].address == address)
-			return k->table.mappings[i].memory;
+	const struct iommufd_mapping *m;
+
+	for (size_t i = 0; (m = listed(k, i)) != NULL; i++)
+		if (m->space == space && m->address == address)
+			return m->memory;
 	return UINT64_MAX;
 }
 
@@ -118,27 +128,45 @@ static uint64_t last_of(const struct iommufd_unmap_cmd *c)
 	return c->address == 0 && c->length == UINT64_MAX ? UINT64_MAX : c->address + (c->length - 1);
 }
 
+static int32_t next(struct shell *k, uint32_t space, uint64_t address)
+{
+	k->calls++;
+	return iommufd_table_next(&k->table, space, address);
+}
+
+/* Notes the mappings of a space that share an address with a range, and gives their number; of an id that is no space there are none, as where a device is destroyed. */
+static size_t note_going(struct shell *k, uint32_t space, uint64_t first, uint64_t last)
+{
+	size_t going = 0;
+	uint64_t a, end;
+	int32_t r;
+
+	for (a = first; (r = next(k, space, a)) > 0 && k->table.mappings[r - 1].address <= last; a = end + 1) {
+		k->going[going] = k->table.mappings[r - 1];
+		end = k->going[going].address + (k->going[going].length - 1);
+		going++;
+		if (end == UINT64_MAX)
+			break;
+	}
+	return going;
+}
+
 /*
- * UNMAP and DESTROY: ask beforehand, shut what goes in the IOMMU's table, have the IOMMU forget it, and only then let the archive's table change and the pages go. The
- * records tell what goes: those of the space that lie inside the range, or all of it.
+ * UNMAP and DESTROY: ask beforehand, shut what goes in the IOMMU's table, have the IOMMU forget it, and only then let the archive's table change and the pages go. What
+ * goes is asked for before, one mapping after another: those of the space that share an address with the range. An accepted UNMAP cuts none of them.
  */
 static int32_t take_away(struct shell *k, uint32_t request, union command *c, size_t size)
 {
 	union command asked = *c;
 	uint32_t space = request == IOMMUFD_UNMAP ? c->unmap.space : c->destroy.id;
 	uint64_t first = request == IOMMUFD_UNMAP ? c->unmap.address : 0, last = request == IOMMUFD_UNMAP ? last_of(&c->unmap) : UINT64_MAX;
-	size_t going = 0;
+	size_t going;
 	int32_t result = iommufd_table_preview(&k->table, request, &asked, size, NULL, 0);
 
 	k->calls++;
 	if (result != 0)
 		return result;
-	for (size_t i = 0; i < IOMMUFD_MAPPINGS; i++) {
-		const struct iommufd_mapping *m = &k->table.mappings[i];
-
-		if (m->space == space && m->address >= first && m->address + (m->length - 1) <= last)
-			k->going[going++] = *m;
-	}
+	going = note_going(k, space, first, last);
 	for (size_t i = 0; i < going; i++)
 		program(k, &k->going[i], 0);
 	if (going)

@@ -18,11 +18,12 @@
 #endif
 
 /* The items of a recording; those from FRESH on are calls. */
-enum { END, SEQUENCE, TABLE, FRESH, CALL, PREVIEW, BIND, ATTACH, DETACH, REACH, CHARGE };
+enum { END, SEQUENCE, TABLE, FRESH, CALL, PREVIEW, BIND, ATTACH, DETACH, REACH, CHARGE, NEXT };
 
 static const char *const names[] = {
-	[FRESH] = "iommufd_fresh",   [CALL] = "iommufd_command",  [PREVIEW] = "iommufd_command_preview", [BIND] = "iommufd_bind",
-	[ATTACH] = "iommufd_attach", [DETACH] = "iommufd_detach", [REACH] = "iommufd_reach",             [CHARGE] = "iommufd_charge",
+	[FRESH] = "iommufd_fresh",   [CALL] = "iommufd_call",     [PREVIEW] = "iommufd_preview", [BIND] = "iommufd_bind",
+	[ATTACH] = "iommufd_attach", [DETACH] = "iommufd_detach", [REACH] = "iommufd_reach",     [CHARGE] = "iommufd_charge",
+	[NEXT] = "iommufd_next",
 };
 
 /* How far the run is: all sequences and calls, the calls of the last sequence, its seed, and the digest of all answers. */
@@ -97,7 +98,7 @@ static void read_recording(void)
 	}
 	if (ferror(stdin))
 		cannot("the recording cannot be read");
-	if (recording_size < BEGINNING + DIGEST || memcmp(recording, "IOMMUFD1", BEGINNING) != 0)
+	if (recording_size < BEGINNING + DIGEST || memcmp(recording, "IOMMUFD2", BEGINNING) != 0)
 		cannot("this is no recording");
 	rest = recording_size - DIGEST;
 	taken = rest;
@@ -155,8 +156,8 @@ static int intact(const struct part *part)
 /* ---- calls */
 
 struct lent {
-	struct part head, records, command, area;
-	size_t count;
+	struct part head, records, index, command, area;
+	size_t count, words;
 };
 
 /* The result has 64 bits here: where the calling convention extends its sign, a call that leaves other bits above it is noticed. */
@@ -175,45 +176,52 @@ static struct answer make(uint32_t item, struct lent *lent, uint32_t request)
 {
 	struct iommufd_head *head = lent->head.lent;
 	struct iommufd_mapping *records = lent->records.lent;
+	uint64_t *beside = lent->index.lent;
 	struct part *command = &lent->command, *area = &lent->area;
-	size_t count = lent->count;
+	size_t count = lent->count, words = lent->words;
 	struct answer got = { 0 };
 
 	if (item == FRESH) {
-		got.result = iommufd_fresh(head, records, count, take_large());
+		got.result = iommufd_fresh(head, records, count, beside, words, take_large());
 	} else if (item == CALL) {
-		got.result = iommufd_command(head, records, count, request, command->lent, command->size, area->lent, area->size);
+		got.result = iommufd_call(head, records, count, beside, words, request, command->lent, command->size, area->lent, area->size);
 	} else if (item == PREVIEW) {
-		got.result = iommufd_command_preview(head, records, count, request, command->lent, command->size, area->lent, area->size);
+		got.result = iommufd_preview(head, records, count, beside, words, request, command->lent, command->size, area->lent, area->size);
 	} else if (item == BIND) {
 		uint64_t bitmap = take_large();
 		struct iommufd_reserved reserved;
 
 		memcpy(&reserved, take(1, sizeof reserved), sizeof reserved);
-		got.result = iommufd_bind(head, records, count, bitmap, reserved);
+		got.result = iommufd_bind(head, records, count, beside, words, bitmap, reserved);
 	} else if (item == ATTACH) {
 		uint32_t device = take_small(), space = take_small();
 
-		got.result = iommufd_attach(head, records, count, device, space);
+		got.result = iommufd_attach(head, records, count, beside, words, device, space);
 	} else if (item == DETACH) {
-		got.result = iommufd_detach(head, records, count, take_small());
+		got.result = iommufd_detach(head, records, count, beside, words, take_small());
 	} else if (item == REACH) {
 		uint32_t device = take_small();
 		uint64_t address = take_large(), length = take_large();
 
-		got = told(iommufd_reach(head, records, count, device, address, length, take_small()));
+		got = told(iommufd_reach(head, records, count, beside, words, device, address, length, take_small()));
+	} else if (item == NEXT) {
+		uint32_t space = take_small();
+		int64_t number = iommufd_next(head, records, count, beside, words, space, take_large());
+
+		/* a number is recorded as the value */
+		got = number < 0 ? (struct answer){ .result = number } : (struct answer){ .value = (uint64_t)number };
 	} else {
-		got = told(iommufd_charge(head, records, count));
+		got = told(iommufd_charge(head, records, count, beside, words));
 	}
 	return got;
 }
 
 static uint64_t digest_of(const struct lent *lent)
 {
-	const struct part *parts[] = { &lent->head, &lent->records, &lent->command, &lent->area };
+	const struct part *parts[] = { &lent->head, &lent->records, &lent->index, &lent->command, &lent->area };
 	uint64_t of = no_digest;
 
-	for (size_t k = 0; k < 4; k++)
+	for (size_t k = 0; k < sizeof parts / sizeof *parts; k++)
 		of = digest(of, parts[k]->lent, parts[k]->size);
 	return of;
 }
@@ -222,6 +230,7 @@ static const char *written_beside(const struct lent *lent)
 {
 	return !intact(&lent->head)      ? "the head"
 	       : !intact(&lent->records) ? "the mapping records"
+	       : !intact(&lent->index)   ? "the index"
 	       : !intact(&lent->command) ? "the command"
 	       : !intact(&lent->area)    ? "the range area"
 	                                 : NULL;
@@ -278,9 +287,12 @@ static void change_table(struct lent *lent)
 {
 	free(lent->head.memory);
 	free(lent->records.memory);
+	free(lent->index.memory);
 	lent->count = take_small();
+	lent->words = take_small();
 	lent->head = lend(1, sizeof(struct iommufd_head), 0);
 	lent->records = lend(lent->count, sizeof(struct iommufd_mapping), 0);
+	lent->index = lend(lent->words, sizeof(uint64_t), 0);
 }
 
 int main(void)
@@ -297,7 +309,7 @@ int main(void)
 			sequences++;
 		} else if (item == TABLE) {
 			change_table(&lent);
-		} else if (item > CHARGE) {
+		} else if (item > NEXT) {
 			cannot("the recording has an item that is none");
 		} else if (lent.head.lent == NULL) {
 			cannot("the recording has a call before the first table");

@@ -1,7 +1,6 @@
-// What a kernel links. Each entry takes any head, any slice of mapping records, any bytes, words and numbers, and answers; a slice of another length than 128 records is -117. A
-// refusal writes nothing, but for -90 of IOVA_RANGES. Nobody else writes the table, and one call runs at a time. The words of the records are loaded, one call decides over them,
-// and what it says of the records is stored. What stands beside the table is handed on, and is not read today.
-ghost use mathlib.Core.Path.{_≡_};
+// What a kernel links. Each entry takes any head, any slice of mapping records, any index beside them, any bytes, words and numbers, and answers; another number of records than
+// 128, or an index that is not that of the records, is -117. A refusal writes nothing, but for -90 of IOVA_RANGES. Nobody else writes the table, and one call runs at a time. The
+// words of the records are loaded, one call decides over them, head and index are written in place, and what is said of the records is stored.
 ghost use Rattle.rules_table.specs.Words.{headIn};
 ghost use Rattle.rules_lent.specs.Entries.{LentCall, Preview, HostCall};
 use rules_table::Mapping;
@@ -16,7 +15,7 @@ pub extern "C" fn iommufd_call(
     cmd: &mut [u8],
     area: &mut [u8],
 ) -> i32
-    ensures { λ r. ⌜ LentCall (headIn (now (h .entry))) (now (ms .entry)) request (now (cmd .entry)) (now (area .entry)) r (headIn (now (h .exit))) (now (ms .exit)) (now (cmd .exit)) (now (area .exit)) × (now (beside .exit) ≡ now (beside .entry)) ⌝ }
+    ensures { λ r. ⌜ LentCall (headIn (now (h .entry))) (now (ms .entry)) (now (beside .entry)) request (now (cmd .entry)) (now (area .entry)) r (headIn (now (h .exit))) (now (ms .exit)) (now (beside .exit)) (now (cmd .exit)) (now (area .exit)) ⌝ }
 {
     let mut ws = [[0; 5]; 128];
     lent_records::load(ms, &mut ws);
@@ -25,17 +24,17 @@ pub extern "C" fn iommufd_call(
     e.result
 }
 
-// What the same command would answer now, reply and all; the table stays.
+// What the same command would answer now, reply and all; table and index stay.
 #[no_mangle]
-pub extern "C" fn iommufd_preview(
-    h: &[u64; 865],
+pub extern "C" fn iommufd_preview<'a>(
+    h: &'a [u64; 865],
     ms: &[Mapping],
-    beside: &[u64],
+    beside: &'a [u64],
     request: u32,
     cmd: &mut [u8],
     area: &mut [u8],
 ) -> i32
-    ensures { λ r. ⌜ Preview (headIn (now (h .entry))) (now (ms .entry)) request (now (cmd .entry)) (now (area .entry)) r (headIn (now (h .exit))) (now (ms .exit)) (now (cmd .exit)) (now (area .exit)) ⌝ }
+    ensures { λ r. ⌜ Preview (headIn (now (h .entry))) (now (ms .entry)) (now (beside .entry)) request (now (cmd .entry)) (now (area .entry)) r (headIn (now (h .exit))) (now (ms .exit)) (now (beside .exit)) (now (cmd .exit)) (now (area .exit)) ⌝ }
 {
     let mut ws = [[0; 5]; 128];
     lent_records::load(ms, &mut ws);
@@ -51,7 +50,7 @@ pub extern "C" fn iommufd_host(
     kind: u32,
     words: &mut [u64],
 ) -> i32
-    ensures { λ r. ⌜ HostCall (headIn (now (h .entry))) (now (ms .entry)) kind (now (words .entry)) r (headIn (now (h .exit))) (now (ms .exit)) (now (words .exit)) × (now (beside .exit) ≡ now (beside .entry)) ⌝ }
+    ensures { λ r. ⌜ HostCall (headIn (now (h .entry))) (now (ms .entry)) (now (beside .entry)) kind (now (words .entry)) r (headIn (now (h .exit))) (now (ms .exit)) (now (beside .exit)) (now (words .exit)) ⌝ }
 {
     let mut ws = [[0; 5]; 128];
     lent_records::load(ms, &mut ws);

@@ -5,7 +5,7 @@ use mathlib.Core.Bool.{true, false, not, _&&_}
 use mathlib.Core.List.{List}
 use lib.Dec.{eqb}
 use lib.ListN.{getD}
-use borrow.Author.Tests.{eqb-true, not-true, not-false, eq-eqb}
+use borrow.Author.Tests.{eqb-true, not-true, eq-eqb}
 use Rattle.lists.specs.Tests.{by-test, contrary, and-left, and-right, and-both}
 use Rattle.rules_table.specs.declared.Mapping.{Mapping}
 use Rattle.rules_table.specs.Records.{used}
@@ -27,10 +27,6 @@ module _ (m : Mapping) (e : isEmpty m ≡ true) where
   unfolding isEmpty
   empty-fields = and-right (not (used m)) (zeroFields m) e
 
-  pub empty-space : m .space ≡ 0
-  unfolding used
-  empty-space = eqb-true (m .space) 0 (not-false (eqb (m .space) 0) empty-released)
-
   pub empty-backing : m .backing ≡ 0
   empty-backing = eqb-true (m .backing) 0 (zero-backing m empty-fields)
 
@@ -40,10 +36,6 @@ module _ (m : Mapping) (e : isEmpty m ≡ true) where
 
   pub empty-alone : (page : ℕ) → recordAlone page m ≡ true
   empty-alone page = alone-released page m empty-released ∙ empty-fields
-
-pub used-full : (m : Mapping) → used m ≡ true → isEmpty m ≡ false
-unfolding isEmpty
-used-full m u = rw u
 
 -- a record that is not empty and keeps its rules is in use
 pub full-used : (page : ℕ) (m : Mapping) → isEmpty m ≡ false → recordAlone page m ≡ true → used m ≡ true

@@ -9,8 +9,10 @@ use lib.Dec.{eqb}
 use lib.ListN.{length, getD, take, set, replicate, length-take, length-set, length-replicate, getD-replicate}
 use lib.Seq.{getD-take, getD-set-same, getD-set-other, take-all}
 use borrow.Author.Tests.{eqb-true, eqb-false, ne-eqb}
-use Rattle.lists.specs.Tests.{by-test, contrary, or-neither, and-not-right}
+use Rattle.lists.specs.Tests.{by-test, contrary, onlyIf, or-neither, and-not-right}
 use Rattle.lists.specs.Search.{any, any-slot, all, all-nil, seek, seek-none, seek-any-false, seek-some-lt, seek-cons-true}
+use Rattle.lists.specs.Sums.{countOf, countOf-length, sumOf-cons, sumOf-nil, sumOf-append}
+use Rattle.lists.specs.Counting.{countOf-nil}
 use Rattle.lists.specs.Pairs.{clashes, clashes-nil}
 use Rattle.rules_table.specs.declared.Mapping.{Mapping}
 use Rattle.rules_table.specs.Records.{used, zeroMapping}
@@ -33,18 +35,24 @@ mark-own p xs a e = go (seek p 0 xs) refl
     go none f = rw (f, seek-append-none p 0 xs (a ∷ []) (seek-none p 0 xs f), seek-cons-true p (0 + length xs) a [] e) (omega arith)
     go (some k) f = rw (f, seek-append-some p 0 xs (a ∷ []) k f, ne-eqb (k + 1) 0 (λ z. omega (arith, z)))
 
--- after i records: their backings have numbers, the marks of the backings, the pages of those that have one, and that no two records differ
-pub record Seen (ms : List Mapping) (i sum : ℕ) (marks : List ℕ) : Type 0 where
+-- one more record is counted where it passes
+count-one : (p : Mapping → Bool) (xs : List Mapping) (m : Mapping) (b : Bool) → p m ≡ b → countOf p (xs ++ m ∷ []) ≡ countOf p xs + onlyIf b 1
+unfolding countOf
+count-one p xs m b e = sumOf-append (λ x. onlyIf (p x) 1) xs (m ∷ []) ∙ rw (sumOf-cons (λ x. onlyIf (p x) 1) m [], sumOf-nil (λ x. onlyIf (p x) 1), e) (omega arith)
+
+-- after i records: their backings have numbers, the marks of the backings, how many are in use, the pages of the backings that have a mark, and that no two records differ
+pub record Seen (ms : List Mapping) (i count sum : ℕ) (marks : List ℕ) : Type 0 where
   pub many : length ms ≡ 128
   pub upto : i ≤ 128
   pub room : length marks ≡ 129
   pub numbers : all numbered (take i ms) ≡ true
   pub marked : (b : ℕ) → 1 ≤ b → b ≤ 128 → getD marks b 0 ≡ markOf (seek (backs b) 0 (take i ms))
   pub agree : clashes differ (take i ms) ≡ false
+  pub counts : count ≡ countOf used (take i ms)
   pub total : sum ≡ charge (take i ms)
   pub small : sum ≤ i * 2 ^ 53
 
-pub seen-start : (ms : List Mapping) → length ms ≡ 128 → Seen ms 0 0 (replicate 129 0)
+pub seen-start : (ms : List Mapping) → length ms ≡ 128 → Seen ms 0 0 0 (replicate 129 0)
 unfolding seek
 seen-start ms h = record {
   many = h;
@@ -53,18 +61,26 @@ seen-start ms h = record {
   numbers = all-nil numbered;
   marked = λ b f l. getD-replicate {A = ℕ} 129 b 0 0 (omega arith);
   agree = clashes-nil differ;
+  counts = sym (countOf-nil used);
   total = sym charge-nil;
   small = omega arith;
 }
 
+-- no more than the records seen
+pub seen-few : (ms : List Mapping) (i count sum : ℕ) (marks : List ℕ) → Seen ms i count sum marks → count ≤ i
+seen-few ms i count sum marks s = omega (arith, s .counts, countOf-length used (take i ms), length-take i ms)
+
 -- after all of them
-module _ (ms : List Mapping) (i sum : ℕ) (marks : List ℕ) (s : Seen ms i sum marks) (h : 128 ≤ i) where
+module _ (ms : List Mapping) (i count sum : ℕ) (marks : List ℕ) (s : Seen ms i count sum marks) (h : 128 ≤ i) where
   whole : take i ms ≡ ms
   whole = take-all i ms (omega (arith, s .many))
 
   pub seen-agree : backingsAgree ms ≡ true
   unfolding backingsAgree
   seen-agree = rw (sym (ap (clashes differ) whole) ∙ s .agree)
+
+  pub seen-count : count ≡ countOf used ms
+  seen-count = s .counts ∙ ap (countOf used) whole
 
   pub seen-charge : sum ≡ charge ms
   seen-charge = s .total ∙ ap charge whole
@@ -83,7 +99,7 @@ abbrev pub leader : List Mapping → List ℕ → ℕ → Mapping
 leader ms marks i = getD ms (leaderPlace (markHere ms marks i) i) zeroMapping
 
 -- one turn
-module _ (ms : List Mapping) (i sum : ℕ) (marks : List ℕ) (s : Seen ms i sum marks) (h : i < 128) (num : numbered (here ms i) ≡ true) (u : used (here ms i) ≡ true) where
+module _ (ms : List Mapping) (i count sum : ℕ) (marks : List ℕ) (s : Seen ms i count sum marks) (h : i < 128) (num : numbered (here ms i) ≡ true) (u : used (here ms i) ≡ true) where
   pub backing-most : here ms i .backing ≤ 128
   backing-most = numbered-most (here ms i) num
 
@@ -163,7 +179,7 @@ module _ (ms : List Mapping) (i sum : ℕ) (marks : List ℕ) (s : Seen ms i sum
   pub seen-on : (k next added : ℕ) (r : Bool) → k ≡ leaderPlace (markHere ms marks i) i → r ≡ differ (getD ms k zeroMapping) (here ms i) → r ≡ false
       → added ≡ addedBy (markHere ms marks i) (here ms i) → added ≤ 2 ^ 53
       → next ≡ markAfter (markHere ms marks i) i
-      → Seen ms (i + 1) (sum + added) (set marks (here ms i .backing) next)
+      → Seen ms (i + 1) (count + 1) (sum + added) (set marks (here ms i .backing) next)
   unfolding addedBy
   seen-on k next added r p q d e f g = record {
     many = s .many;
@@ -172,6 +188,7 @@ module _ (ms : List Mapping) (i sum : ℕ) (marks : List ℕ) (s : Seen ms i sum
     numbers = all-turn numbered ms zeroMapping i (omega (arith, s .many)) (s .numbers) num;
     marked = marks-on next g;
     agree = rw (turn, clashes-append differ (take i ms) (here ms i)) (or-neither (clashes differ (take i ms)) (any (λ y. differ y (here ms i)) (take i ms)) (s .agree) (none-differ (asked k r false p q d)));
+    counts = rw turn (omega (arith, s .counts, count-one used (take i ms) (here ms i) true u));
     total = rw (turn, charge-append (take i ms) (here ms i) num, ← mark-none, ← e, ← s .total);
     small = omega (arith, s .small);
   }
@@ -189,12 +206,12 @@ other-backing : (m : Mapping) (b : ℕ) → m .backing ≡ 0 → 1 ≤ b → bac
 unfolding backs
 other-backing m b e h = ne-eqb (m .backing) b (λ z. omega (arith, e, z))
 
-module _ (ms : List Mapping) (i sum : ℕ) (marks : List ℕ) (s : Seen ms i sum marks) (h : i < 128) (e : isEmpty (here ms i) ≡ true) where
+module _ (ms : List Mapping) (i count sum : ℕ) (marks : List ℕ) (s : Seen ms i count sum marks) (h : i < 128) (e : isEmpty (here ms i) ≡ true) where
   next : take (i + 1) ms ≡ take i ms ++ here ms i ∷ []
   next = take-turn ms zeroMapping i (omega (arith, s .many))
 
   -- the marks and the sum stand
-  pub seen-skip : Seen ms (i + 1) sum marks
+  pub seen-skip : Seen ms (i + 1) count sum marks
   seen-skip = record {
     many = s .many;
     upto = omega arith;
@@ -202,6 +219,7 @@ module _ (ms : List Mapping) (i sum : ℕ) (marks : List ℕ) (s : Seen ms i sum
     numbers = all-turn numbered ms zeroMapping i (omega (arith, s .many)) (s .numbers) (empty-numbered (here ms i) e);
     marked = λ b f l. rw next (s .marked b f l ∙ ap markOf (sym (seek-append-other (backs b) 0 (take i ms) (here ms i) (other-backing (here ms i) b (empty-backing (here ms i) e) f))));
     agree = rw (next, clashes-append differ (take i ms) (here ms i)) (or-neither (clashes differ (take i ms)) (any (λ y. differ y (here ms i)) (take i ms)) (s .agree) (none-released (take i ms) (here ms i) (empty-released (here ms i) e)));
+    counts = rw next (omega (arith, s .counts, count-one used (take i ms) (here ms i) false (empty-released (here ms i) e)));
     total = rw (next, charge-append (take i ms) (here ms i) (empty-numbered (here ms i) e), empty-released (here ms i) e, and-not-right (not (any (backs (here ms i .backing)) (take i ms))) false refl) (omega (arith, s .total));
     small = omega (arith, s .small);
   }

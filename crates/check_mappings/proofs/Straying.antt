@@ -1,14 +1,13 @@
 -- What each return of a leaf gives, in the words of the definitions.
-use Prim.Native.Nat.{ℕ, zero, suc, _+_, _-_, _/_, _≤_, _<_}
+use Prim.Native.Nat.{ℕ, zero, suc, _+_, _-_, _/_, _<_}
 use mathlib.Core.Path.{_≡_, sym, ap, _∙_}
 use mathlib.Core.Bool.{Bool, false}
 use mathlib.Core.List.{List}
 use native.Mathlib.Omega.{arith}
-use lib.Dec.{leb, eqb}
+use lib.Dec.{eqb}
 use lib.ListN.{length, getD, List·getD-eq-default}
-use borrow.Author.Tests.{eqb-true, eqb-false, eq-eqb, ne-eqb, leb-true, leb-false}
+use borrow.Author.Tests.{eqb-true, eqb-false, eq-eqb, ne-eqb}
 use Rattle.lists.specs.Tests.{by-test}
-use Rattle.ranges.specs.Ranges.{U64MAX, lastOf}
 use Rattle.ranges.specs.Pages.{pagesTouched}
 use Rattle.rules_table.specs.declared.Mapping.{Mapping}
 use Rattle.rules_table.specs.Records.{zeroMapping, used}
@@ -34,11 +33,8 @@ module _ (pages : List ℕ) (s : ℕ) where
   page-here h k e = ap (λ (n : ℕ). getD pages n 0) e ∙ page-some h
 
   -- a space with an alignment has an id
-  pub page-inside : length pages ≡ 33 → (pageOf pages s ≡ 0 → ⊥) → (0 < s) × (s ≤ 32)
-  page-inside l h = (
-    by-test (eqb s 0) (λ t. absurd (h (sym (page-none (eqb-true s 0 t))))) (λ t. omega (arith, eqb-false s 0 t)),
-    by-test (leb s 32) (λ t. leb-true s 32 t) (λ t. absurd (h (sym (page-far l (leb-false s 32 t))))),
-  )
+  pub page-named : (pageOf pages s ≡ 0 → ⊥) → 0 < s
+  page-named h = by-test (eqb s 0) (λ t. absurd (h (sym (page-none (eqb-true s 0 t))))) (λ t. omega (arith, eqb-false s 0 t))
 
 -- the pages of a record that has a byte
 pages-touched : (memory n : ℕ) → 0 < n → (memory + (n - 1)) / 4096 - memory / 4096 + 1 ≡ pagesTouched memory n
@@ -49,11 +45,6 @@ pages-touched memory (suc l) h = let z : suc l - 1 ≡ l = omega arith in rw z
 pub pages-own : (m : Mapping) (r : ℕ) → 0 < m .length → r ≡ (m .memory + (m .length - 1)) / 4096 - m .memory / 4096 + 1 → r ≡ mappingPages m
 unfolding mappingPages
 pages-own m r h e = e ∙ pages-touched (m .memory) (m .length) h
-
--- the last address of a record that ends by U64MAX
-pub end-own : (m : Mapping) (r : ℕ) → r ≡ m .address + (m .length - 1) → m .address + (m .length - 1) ≤ U64MAX → (r ≡ lastOf (m .address) (m .length)) × (m .address ≤ r)
-unfolding lastOf
-end-own m r e h = (omega (arith, e, h), omega (arith, e))
 
 -- what a record adds, and the mark after it
 module _ (mark i : ℕ) (m : Mapping) where

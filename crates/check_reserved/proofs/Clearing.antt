@@ -1,4 +1,4 @@
--- One reserved range is asked of all records at once; one slot after another.
+-- One reserved range against all records; one slot after another.
 use Prim.Native.Nat.{ℕ, _+_, _≤_, _<_, min}
 use mathlib.Core.Path.{_≡_, refl, sym, ap, _∙_}
 use mathlib.Core.Bool.{Bool, true, false, not, _&&_, _||_, cond}
@@ -6,12 +6,12 @@ use mathlib.Core.List.{List, [], _∷_, _++_}
 use native.Mathlib.Omega.{arith}
 use lib.Dec.{eqb}
 use lib.ListN.{length, getD, drop}
-use borrow.Author.Tests.{eqb-true, eqb-false, eq-eqb, ne-eqb, lt-leb, not-true, not-false}
+use borrow.Author.Tests.{eqb-true, eqb-false, eq-eqb, ne-eqb, not-true, not-false}
 use Rattle.lists.specs.Tests.{by-test, or-right, and-not-right}
 use Rattle.lists.specs.Search.{any, all, any-cons, any-nil, any-append, any-found, any-on, any-end, any-cong, all-cong, all-and, all-not}
 use Rattle.lists.specs.Each.{Each-of, all-Each}
 use Rattle.ranges.specs.declared.Range.{Range}
-use Rattle.ranges.specs.Ranges.{range, share, sharedStart, sharedLast, share-comm}
+use Rattle.ranges.specs.Ranges.{range, share, share-comm}
 use Rattle.rangelists.specs.declared.Reserved.{Reserved}
 use Rattle.rangelists.specs.Listed.{reserved, length-listed, getD-listed, zeroRange}
 use Rattle.rules_table.specs.declared.Kind.{Kind}
@@ -22,12 +22,6 @@ use Rattle.rules_table.specs.Spaces.{reservedFor, reservedOf}
 use Rattle.rules_table.specs.Good.{whenUsed, clearOf}
 use Rattle.reserved_ranges.specs.Gathered.{reservedOf-left, reservedOf-done}
 use Rattle.check_reserved.specs.Clear.{strikes, clearBy}
-
--- ---- one range against one record
-
--- the answer for the record that was read, in the space that was asked
-pub touched-here : (s t : ℕ) (r : Range) (m n : Mapping) (b c : Bool) → b ≡ touches t r m → m ≡ n → t ≡ s → b ≡ c → touches s r n ≡ c
-touched-here s t r m n b c e f g h = rw (← g, ← f) (sym e ∙ h)
 
 -- ---- one range against all records
 
@@ -42,19 +36,11 @@ module _ (s : ℕ) (r : Range) (ms : List Mapping) where
   unfolding strikes used touches ofSpace
   struck-nowhere e = sym (none-struck (strikes s r) ms (λ m. rw e (by-test (eqb (m .space) 0) (λ u. rw u) (λ u. rw u))))
 
-  -- a range with no address
-  pub struck-empty : r .last < r .start → false ≡ any (strikes s r) ms
-  unfolding strikes touches share sharedStart sharedLast
-  struck-empty h =
-      sym (none-struck (strikes s r) ms (λ m.
-      and-not-right (used m) (ofSpace s m && share r (extent m))
-      (and-not-right (ofSpace s m) (share r (extent m)) (lt-leb (sharedStart r (extent m)) (sharedLast r (extent m)) (omega arith)))))
-
   -- a record of any other space is in use
-  pub struck-touched : (b : Bool) → (s ≡ 0 → ⊥) → b ≡ any (touches s r) ms → b ≡ any (strikes s r) ms
+  pub struck-touched : (b : Bool) (q : ℕ) → (s ≡ 0 → ⊥) → b ≡ any (touches q r) ms → q ≡ s → b ≡ any (strikes s r) ms
   unfolding strikes used touches ofSpace
-  struck-touched b n e =
-      e ∙ any-cong (touches s r) (strikes s r) ms
+  struck-touched b q n e same =
+      e ∙ ap (λ (k : ℕ). any (touches k r) ms) same ∙ any-cong (touches s r) (strikes s r) ms
       (λ m. by-test (eqb (m .space) s)
       (λ t. rw (t, ne-eqb (m .space) 0 (λ z. n (sym (eqb-true (m .space) s t) ∙ z))))
       (λ t. rw t (sym (and-not-right (not (eqb (m .space) 0)) false refl))))

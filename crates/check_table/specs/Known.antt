@@ -28,12 +28,30 @@ use Rattle.rules_table.specs.Words.{headIn, objectsIn}
 use Rattle.rules_calls.specs.Gate.{tableWith}
 use Rattle.table.specs.Aligned.{alignment-pos}
 use Rattle.table.specs.Checked.{objectOk, objectsOk, recordOk, kindNames, pageAt}
+use Rattle.rules_index.specs.Index.{agrees}
+use Rattle.index_search.specs.Indexed.{Indexed}
+use Rattle.check_objects.specs.declared.Pass.{Pass as Objects}
 use Rattle.check_objects.specs.Pages.{Pages}
+use Rattle.check_objects.specs.Passed.{Passed}
+use Rattle.check_index.specs.declared.Listing.{Listing}
+use Rattle.check_mappings.specs.declared.Pass.{Pass}
 use Rattle.check_mappings.specs.Told.{Told, pageOf}
 use Rattle.check_table.specs.declared.Findings.{Findings}
 
--- good objects and 128 records that keep their rules; the lowest free object record, the alignments of the spaces, the pass over the records with the marks of the backings
-pub record Known (os : List Object) (ms : List Mapping) (pages marks : List ℕ) (f : Findings) : Type 0 where
+-- what the passes over the objects and over the mapping records told
+pub record Passes (os : List Object) (ms : List Mapping) (d : Objects) (p : Pass) : Type 0 where
+  pub pages : List ℕ
+  pub marks : List ℕ
+  pub objects : Passed os d pages
+  pub mappings : Told pages ms p marks
+
+-- the verdict, and of a good one all that a search of the index asks
+pub record Judged (limit : ℕ) (os : List Object) (ms : List Mapping) (ix : List ℕ) (l : Listing) : Type 0 where
+  pub verdict : l .good ≡ (good (tableWith limit os ms) && agrees ix ms)
+  pub indexed : l .good ≡ true → Indexed (l .count) ix ms
+
+-- good objects and 128 records that keep their rules; the lowest free object record, the alignments of the spaces, the pass over the records with the marks of the backings, the index
+pub record Known (os : List Object) (ms : List Mapping) (ix pages marks : List ℕ) (f : Findings) : Type 0 where
   pub objects : objectsOk os ≡ true
   pub records : Each (λ m. recordOk os m ≡ true) ms
   pub many : length ms ≡ 128
@@ -42,10 +60,11 @@ pub record Known (os : List Object) (ms : List Mapping) (pages marks : List ℕ)
   pub marked : length marks ≡ 129
   pub good : f .mappings .good ≡ true
   pub told : Told pages ms (f .mappings) marks
+  pub indexed : Indexed (f .listed) ix ms
 
-pub record Checked (limit : ℕ) (os : List Object) (ms : List Mapping) (pages marks : List ℕ) (f : Findings) : Type 0 where
-  pub verdict : f .good ≡ good (tableWith limit os ms)
-  pub known : f .good ≡ true → Known os ms pages marks f
+pub record Checked (limit : ℕ) (os : List Object) (ms : List Mapping) (ix pages marks : List ℕ) (f : Findings) : Type 0 where
+  pub verdict : f .good ≡ (good (tableWith limit os ms) && agrees ix ms)
+  pub known : f .good ≡ true → Known os ms ix pages marks f
 
 no-page : (os : List Object) → 0 ≡ pageAt os 0
 unfolding pageAt spaceAt objectAt

@@ -1,7 +1,7 @@
 -- COPY: the checks as the code makes them, then one law for each return: the numbers, the source, the place or the records refused, or the copy is made.
-use Prim.Native.Nat.{ℕ}
-use mathlib.Core.Path.{_≡_, sym, ap, _∙_}
-use borrow.Author.Tests.{not-false}
+use Prim.Native.Nat.{ℕ, suc, _<_}
+use mathlib.Core.Path.{_≡_, refl, sym, ap, _∙_}
+use borrow.Author.Tests.{not-false, not-true, eqb-false}
 use mathlib.Core.Bool.{Bool, true, false, not, _&&_}
 use mathlib.Core.List.{List, [], _∷_, _++_}
 use mathlib.Core.Option.{Option}
@@ -19,8 +19,8 @@ use Rattle.rules_table.specs.Charge.{freeMapping}
 use Rattle.rules_calls.specs.declared.Edit.{Edit}
 use Rattle.rules_calls.specs.Edits.{refuse, isNone}
 use Rattle.edits.specs.Settled.{checked, checked-last, settle-refused, settle-taken}
-use Rattle.scan.specs.declared.Source.{Source}
-use Rattle.scan.specs.declared.Source.the-variants.{Missing}
+use Rattle.index_search.specs.declared.Source.{Source}
+use Rattle.index_search.specs.declared.Source.the-variants.{Missing}
 use Rattle.rules_calls.specs.Copy.{sourceOf, sourceMapping, sourceChecks, recordChecks, copyOf, copying, copyNumberChecks, copyChecks, copyEdit}
 use Rattle.landing.specs.declared.Target.{Target}
 use Rattle.landing.specs.declared.Placing.{Placing}
@@ -29,7 +29,7 @@ use Rattle.landing.specs.Placing.{Placed}
 use Rattle.rules_calls.specs.Map.{rightsOf, mapped, noRight, wrongLength, fixedPasses}
 use Rattle.cmd_map.proofs.Staging.{stage-refused, stage-passed, place-refuse}
 use Rattle.edits.specs.Numbers.{copyNumberChecksAt, copyChecksAt, copyEditAt, optionOf, option-found, none-found}
-use Rattle.scan.specs.Sourced.{sourced, mappingIn, mapping-sourced}
+use Rattle.index_search.specs.Sourced.{sourced, mappingIn, mapping-sourced}
 
 pub numbers-are : (os : List Object) (flags s from n x y r1 r2 r3 r4 r5 r6 r7 : ℕ) (un nr wr pa fi tg kn : Bool) → un ≡ unknown 3 flags → nr ≡ noRight flags → wr ≡ wrongLength n → pa ≡ passes y n
     → fi ≡ fixedPasses flags x n → tg ≡ spaceAt os s → kn ≡ spaceAt os from → r1 ≡ first (when (not kn) 2 ∷ []) 0 → r2 ≡ first (when (not tg) 2 ∷ []) r1 → r3 ≡ first (when fi 75 ∷ []) r2
@@ -43,6 +43,27 @@ numbers-are os flags s from n x y r1 r2 r3 r4 r5 r6 r7 un nr wr pa fi tg kn eun 
     (checked fi (fixedPasses flags x n) 75 r3 r2 0 _ e3 efi
     (checked (not tg) (not (spaceAt os s)) 2 r2 r1 0 _ e2 (ap (λ (b : Bool). not b) etg)
     (checked-last (not kn) (not (spaceAt os from)) 2 r1 0 e1 (ap (λ (b : Bool). not b) ekn)))))))
+
+pub not-zero : (a : ℕ) → not (eqb a 0) ≡ true → 0 < a
+not-zero a e = let n = eqb-false a 0 (not-true (eqb a 0) e) in omega (arith, n)
+
+-- a check that is followed by 0 has not fired
+through : (b : Bool) (n rest r : ℕ) → r ≡ first (when b (suc n) ∷ []) rest → r ≡ 0 → (b ≡ false) × (rest ≡ 0)
+unfolding first
+through true n rest r e z = absurd (omega (arith, e, z))
+through false n rest r e z = (refl, sym e ∙ z)
+
+-- where all pass, both ids are those of spaces
+pub both-known : (r1 r2 r3 r4 r5 r6 r7 : ℕ) (un nr wr pa fi tg kn : Bool) → r1 ≡ first (when (not kn) 2 ∷ []) 0 → r2 ≡ first (when (not tg) 2 ∷ []) r1 → r3 ≡ first (when fi 75 ∷ []) r2
+    → r4 ≡ first (when pa 75 ∷ []) r3 → r5 ≡ first (when wr 22 ∷ []) r4 → r6 ≡ first (when nr 22 ∷ []) r5 → r7 ≡ first (when un 95 ∷ []) r6 → r7 ≡ 0 → (tg ≡ true) × (kn ≡ true)
+both-known r1 r2 r3 r4 r5 r6 r7 un nr wr pa fi tg kn e1 e2 e3 e4 e5 e6 e7 z =
+    let z6 = through un 94 r6 r7 e7 z .1 in
+    let z5 = through nr 21 r5 r6 e6 z6 .1 in
+    let z4 = through wr 21 r4 r5 e5 z5 .1 in
+    let z3 = through pa 74 r3 r4 e4 z4 .1 in
+    let z2 = through fi 74 r2 r3 e3 z3 .1 in
+    let t = through (not tg) 1 r1 r2 e2 z2 in
+    (not-false tg (t .0), not-false kn (through (not kn) 1 0 r1 e1 (t .1) .0))
 
 pub source-none : (o : Source) → o ≡ Missing → _≡_ {A = Mapping} record { space = 0; rights = 0; founder = 0; backing = 0; address = 0; length = 0; memory = 0 } (sourceMapping (mappingIn o))
 source-none o e = rw e

@@ -2,28 +2,27 @@
 ghost use mathlib.Core.Bool.{true};
 ghost use mathlib.Core.List.{List};
 ghost use mathlib.Core.Path.{_≡_};
-ghost use Prim.Native.Nat.{ℕ};
-ghost use lib.ListN.{length};
+ghost use Prim.Native.Nat.{ℕ, _<_};
 ghost use Rattle.lists.specs.Checks.{first};
 ghost use Rattle.rules_table.specs.declared.Object.{Object};
 ghost use Rattle.rules_table.specs.Records.{spaceAt};
 ghost use Rattle.table.specs.Checked.{pageAt};
 ghost use Rattle.rules_table.specs.Words.{objectsIn};
 ghost use Rattle.layout_mappings.specs.Words.{recordsOf};
-ghost use Rattle.check_mappings.specs.Told.{Told};
+ghost use Rattle.index_search.specs.Indexed.{Indexed};
 ghost use Rattle.rules_calls.specs.Copy.{sourceMapping, sourceChecks, recordChecks, copyOf};
 ghost use Rattle.edits.specs.Numbers.{copyNumberChecksAt, copyEditAt, optionOf};
 ghost use Rattle.rules_calls.specs.Edits.{isNone};
-ghost use Rattle.scan.specs.Sourced.{mappingIn};
-use check_mappings::Pass;
+ghost use Rattle.index_search.specs.Sourced.{mappingIn};
+use index_search::Source;
 use landing::Target;
 use rangelists::Found;
 use rules_calls::Edit;
 use rules_table::Mapping;
-use scan::Source;
 
 fn copy_number_errno(target: bool, known: bool, t: Target, from: u64) -> u8
-    ensures { λ r. ⌜ ((os : List Object) (source : ℕ) → target ≡ spaceAt os (t .space) → known ≡ spaceAt os source → r ≡ first (copyNumberChecksAt os (t .flags) (t .space) source (t .length) (t .address) from) 0) ⌝ }
+    ensures { λ r. ⌜ ((os : List Object) (source : ℕ) → target ≡ spaceAt os (t .space) → known ≡ spaceAt os source → r ≡ first (copyNumberChecksAt os (t .flags) (t .space) source (t .length) (t .address) from) 0)
+        × (r ≡ 0 → (target ≡ true) × (known ≡ true)) ⌝ }
 {
     let flags = t.flags;
     let n = t.length;
@@ -114,30 +113,31 @@ fn copied(m: Mapping, t: Target, address: u64) -> Mapping
     }
 }
 
-// What the check found: p of the mapping records; a and b, the alignments of the target's space and of the source's, 0 where there is no space.
+// What the check found: the numbers that the index has; a and b, the alignments of the target's space and of the source's, 0 where there is no space.
 pub fn decide_copy<'a>(
     h: &'a [u64; 865],
     ws: &'a [[u64; 5]],
-    p: Pass,
+    ix: &'a [u64],
+    listed: usize,
     a: u64,
     b: u64,
     t: Target,
     source: u32,
     from: u64,
 ) -> Edit
-    requires { ⌜ (length (now ws) ≡ 128) × (p .good ≡ true) × ((pages marks : List ℕ) × Told pages (recordsOf (now ws)) p marks) ⌝ }
+    requires { ⌜ Indexed listed (now ix) (recordsOf (now ws)) × (0 < a → 0 < t .space) × (0 < b → 0 < source) ⌝ }
     ensures { λ e. ⌜ (a ≡ pageAt (objectsIn (now (h .entry))) (t .space) → b ≡ pageAt (objectsIn (now (h .entry))) source → e ≡ copyEditAt (objectsIn (now (h .entry))) (recordsOf (now (ws .entry))) (t .flags) (t .space) source (t .length) (t .address) from) ⌝ }
 {
     let wrong = copy_number_errno(a != 0, b != 0, t, from);
     if wrong != 0 {
         return edits::refusal(wrong);
     }
-    let o = scan::find_mapping(ws, source, from, t.length);
+    let o = index_search::find_source(ws, ix, listed, source, from, t.length);
     let denied = source_errno(t.flags, o);
     if denied != 0 {
         return edits::refusal(denied);
     }
-    let place = cmd_map::place_in(h, ws, a, t);
+    let place = cmd_map::place_in(h, ws, ix, listed, a, t);
     if place.errno != 0 {
         return edits::refusal(place.errno);
     }

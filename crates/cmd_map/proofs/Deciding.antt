@@ -1,16 +1,18 @@
 -- MAP, one law for each return: the numbers, the place or the room refused, or the mapping is made.
-use Prim.Native.Nat.{ℕ}
-use mathlib.Core.Path.{_≡_, sym, _∙_}
-use mathlib.Core.Bool.{true, false}
+use Prim.Native.Nat.{ℕ, zero, suc, _<_}
+use mathlib.Core.Path.{_≡_, refl, sym, _∙_}
+use mathlib.Core.Bool.{true, false, not}
 use borrow.Author.Tests.{not-false}
-use mathlib.Core.List.{List, _++_}
+use mathlib.Core.List.{List, [], _++_}
 use native.Mathlib.Omega.{arith}
+use lib.Dec.{eqb}
+use Rattle.lists.specs.Tests.{contrary}
 use Rattle.lists.specs.Checks.{Check, when, first, Refusals, passed}
 use Rattle.ranges.specs.Pages.{pagesTouched}
 use Rattle.rules_table.specs.Flags.{bit}
 use Rattle.rules_table.specs.declared.Object.{Object}
 use Rattle.rules_table.specs.declared.Mapping.{Mapping}
-use Rattle.rules_table.specs.Records.{spaceAt}
+use Rattle.rules_table.specs.Records.{objectAt, spaceAt}
 use Rattle.rules_table.specs.Charge.{charge, freeMapping, freeBacking}
 use Rattle.rules_calls.specs.declared.Edit.{Edit}
 use Rattle.rules_calls.specs.Edits.{refuse, numberIn}
@@ -79,3 +81,14 @@ module _ (limit : ℕ) (os : List Object) (ms : List Mapping) (t : Target) (z me
       pub by-making : (r : Edit) (number : ℕ) (m : Mapping) → full ≡ 0 → number ≡ numberIn (optionOf (v .backing)) → m ≡ foundOf number (t .flags) (t .space) memory (t .length) (p .address) → r ≡ mapped (optionOf (v .free)) m → r ≡ edit
       unfolding mapEdit founding surveyOf
       by-making r number m zf en em er = settle-taken full (first all 0) r _ room-is zf (er ∙ rw (em, en, ev, option-found (freeMapping ms), option-found (freeBacking ms), at .address zp))
+
+none-there : (s : ℕ) → spaceAt [] s ≡ false
+unfolding spaceAt objectAt
+none-there zero = refl
+none-there (suc i) = refl
+
+-- where the numbers pass, whatever the objects, the alignment is that of a space
+pub is-known : (a : ℕ) (t : Target) (z memory w : ℕ) → ((os : List Object) → not (eqb a 0) ≡ spaceAt os (t .space) → w ≡ first (numbers 0 os [] t z memory) 0) → w ≡ 0 → 0 < a
+is-known zero t z memory w f e =
+    contrary (spaceAt [] (t .space)) (numbers-known 0 [] [] t z memory w (f [] (sym (none-there (t .space)))) e) (none-there (t .space))
+is-known (suc a) t z memory w f e = omega arith

@@ -2,7 +2,7 @@
 ghost use mathlib.Core.Bool.{true};
 ghost use mathlib.Core.List.{List};
 ghost use mathlib.Core.Path.{_≡_};
-ghost use Prim.Native.Nat.{ℕ, _+_, _≤_};
+ghost use Prim.Native.Nat.{ℕ, _+_, _≤_, _<_};
 ghost use lib.ListN.{length};
 ghost use Rattle.lists.specs.Tests.{onlyIf};
 ghost use Rattle.lists.specs.Checks.{first};
@@ -12,6 +12,7 @@ ghost use Rattle.table.specs.Checked.{pageAt};
 ghost use Rattle.rules_table.specs.Spaces.{alignment};
 ghost use Rattle.rules_table.specs.Words.{headIn, objectsIn};
 ghost use Rattle.layout_mappings.specs.Words.{recordsOf};
+ghost use Rattle.index_search.specs.Indexed.{Indexed};
 ghost use Rattle.check_mappings.specs.Told.{Told};
 ghost use Rattle.landing.specs.Placing.{Placed};
 ghost use Rattle.rules_calls.specs.Edits.{numberIn};
@@ -83,19 +84,26 @@ pub fn fixed_passes(flags: u32, x: u64, n: u64) -> bool
 }
 
 // The place of a target in a space of alignment a. What the range asked touches is asked for a fixed address alone.
-pub fn place_in<'a>(h: &'a [u64; 865], ws: &'a [[u64; 5]], a: u64, t: Target) -> Placing
-    requires { ⌜ length (now ws) ≡ 128 ⌝ }
+pub fn place_in<'a>(
+    h: &'a [u64; 865],
+    ws: &'a [[u64; 5]],
+    ix: &'a [u64],
+    listed: usize,
+    a: u64,
+    t: Target,
+) -> Placing
+    requires { ⌜ Indexed listed (now ix) (recordsOf (now ws)) × (0 < t .space) ⌝ }
     ensures { λ p. ⌜ (a ≡ alignment (objectsIn (now (h .entry))) (t .space) → Placed (objectsIn (now (h .entry))) (recordsOf (now (ws .entry))) t p) ⌝ }
 {
     if opening::is_fixed(t.flags) {
         let r = ranges::span_of(t.address, t.length);
         let reserved = reserved_ranges::is_touched(h, t.space, r);
-        let touched = scan::is_taken(ws, t.space, r);
+        let touched = index_search::is_taken(ws, ix, listed, t.space, r);
         return landing::place_fixed(a, t, reserved, touched);
     }
     let o = layout_objects::object_of(h, t.space);
     let allow = o.allow;
-    landing::place_automatic(h, ws, a, allow, t)
+    landing::place_automatic(h, ws, ix, listed, a, allow, t)
 }
 
 // ---- MAP
@@ -166,10 +174,12 @@ fn founded(backing: u32, t: Target, memory: u64, address: u64) -> Mapping
     }
 }
 
-// What the check found: p of the mapping records, with the marks of their backings, and a, the alignment of the target's space, 0 where it is no space.
+// What the check found: p of the mapping records, with the marks of their backings, the numbers that the index has, and a, the alignment of the target's space, 0 where it is no space.
 pub fn decide_map<'a>(
     h: &'a [u64; 865],
     ws: &'a [[u64; 5]],
+    ix: &'a [u64],
+    listed: usize,
     p: Pass,
     marks: &'a [u8],
     a: u64,
@@ -177,14 +187,14 @@ pub fn decide_map<'a>(
     zero: u32,
     memory: u64,
 ) -> Edit
-    requires { ⌜ (length (now ws) ≡ 128) × (length (now marks) ≡ 129) × (p .good ≡ true) × ((pages : List ℕ) × Told pages (recordsOf (now ws)) p (now marks)) ⌝ }
+    requires { ⌜ Indexed listed (now ix) (recordsOf (now ws)) × (length (now marks) ≡ 129) × (p .good ≡ true) × (0 < a → 0 < t .space) × ((pages : List ℕ) × Told pages (recordsOf (now ws)) p (now marks)) ⌝ }
     ensures { λ e. ⌜ (a ≡ pageAt (objectsIn (now (h .entry))) (t .space) → e ≡ mapEditAt (headIn (now (h .entry)) .limit) (objectsIn (now (h .entry))) (recordsOf (now (ws .entry))) (t .flags) (t .space) zero memory (t .length) (t .address)) ⌝ }
 {
     let wrong = map_number_errno(a != 0, t, zero, memory);
     if wrong != 0 {
         return edits::refusal(wrong);
     }
-    let place = place_in(h, ws, a, t);
+    let place = place_in(h, ws, ix, listed, a, t);
     if place.errno != 0 {
         return edits::refusal(place.errno);
     }

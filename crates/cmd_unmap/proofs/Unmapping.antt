@@ -1,22 +1,23 @@
 -- UNMAP: the checks as the code makes them, then one law for each return: the numbers or the mappings refused, or the mappings inside go.
-use Prim.Native.Nat.{ℕ}
+use Prim.Native.Nat.{ℕ, _≤_}
 use mathlib.Core.Path.{_≡_, refl, sym, ap, _∙_}
 use mathlib.Core.Bool.{Bool, true, false, not, _&&_}
 use mathlib.Core.List.{List, [], _∷_}
 use native.Mathlib.Omega.{arith}
 use lib.Dec.{eqb}
-use Rattle.lists.specs.Checks.{when, first, first-append, first-stays, first-goes, Refusals}
+use Rattle.lists.specs.Tests.{by-test}
+use Rattle.lists.specs.Checks.{when, first, first-append, first-stays, first-goes, Refusals, passed}
 use Rattle.ranges.specs.declared.Range.{Range}
-use Rattle.ranges.specs.Ranges.{U64MAX, passes, span}
+use Rattle.ranges.specs.Ranges.{U64MAX, passes, span, span-some}
 use Rattle.rules_table.specs.declared.Object.{Object}
 use Rattle.rules_table.specs.declared.Mapping.{Mapping}
-use Rattle.rules_table.specs.Records.{freeObject, spaceAt}
+use Rattle.rules_table.specs.Records.{freeObject, objectAt, spaceAt}
 use Rattle.rules_calls.specs.declared.Change.the-variants.{Clear}
 use Rattle.rules_calls.specs.declared.Edit.{Edit}
 use Rattle.rules_calls.specs.Edits.{refuse, accept}
 use Rattle.edits.specs.Settled.{checked, checked-last, settle-refused, settle-taken}
-use Rattle.scan.specs.declared.Removal.{Removal}
-use Rattle.scan.specs.Removed.{removalOf}
+use Rattle.index_search.specs.declared.Removal.{Removal}
+use Rattle.index_search.specs.Removed.{removalOf}
 use Rattle.rules_calls.specs.Unmap.{asksAll, rangeAsked, removalBy, removalChecks, unmapEdit, unmapNumberChecks, unmapChecks}
 use Rattle.edits.specs.Numbers.{unmapNumberChecksAt, unmapChecksAt, unmapEditAt}
 
@@ -40,6 +41,18 @@ numbers-are os s a n r1 r2 r3 pa kn epa ekn e1 e2 e3 =
 pub removal-is : (all cut sm nn : Bool) (r1 r2 : ℕ) → nn ≡ (not all && not sm) → r1 ≡ first (when nn 2 ∷ []) 0 → r2 ≡ first (when cut 2 ∷ []) r1 → r2 ≡ first (removalBy all cut sm) 0
 unfolding removalBy
 removal-is all cut sm nn r1 r2 en e1 e2 = checked cut cut 2 r2 r1 0 _ e2 refl (checked-last nn (not all && not sm) 2 r1 0 e1 en)
+
+-- the numbers of an id that is no space are refused
+pub is-known : (known : Bool) (a n w : ℕ) → ((os : List Object) (s : ℕ) → known ≡ spaceAt os s → w ≡ first (unmapNumberChecksAt os s a n) 0) → w ≡ 0 → known ≡ true
+unfolding unmapNumberChecks spaceAt objectAt
+is-known true a n w f e = refl
+is-known false a n w f e =
+    sym (passed (unmapNumberChecksAt [] 0 a n) 0 (when false 0) (λ y. omega (arith, y), (λ y. omega (arith, y), (λ y. omega (arith, y), tt))) (sym (f [] 0 refl) ∙ e) 2 (omega arith))
+
+-- the range asked has an address
+pub asked-some : (a n : ℕ) (r : Range) → r ≡ rangeAsked a n → a ≤ U64MAX → r .start ≤ r .last
+unfolding rangeAsked span
+asked-some a n r q h = rw q (by-test (asksAll a n) (λ e. rw e (omega arith)) (λ e. rw e (span-some a n h)))
 
 -- ---- UNMAP
 

@@ -1,15 +1,15 @@
-// What UNMAP decides over a good table. One pass tells whether a mapping is cut, whether one goes, and the bytes: nothing is removed before.
+// What UNMAP decides over a good table. One search tells whether a mapping is cut, whether one goes, and the bytes: nothing is removed before.
 ghost use mathlib.Core.Bool.{true};
 ghost use mathlib.Core.List.{List};
 ghost use mathlib.Core.Path.{_≡_};
-ghost use Prim.Native.Nat.{ℕ};
-ghost use lib.ListN.{length};
+ghost use Prim.Native.Nat.{ℕ, _<_};
 ghost use Rattle.lists.specs.Each.{Each};
 ghost use Rattle.lists.specs.Checks.{first};
 ghost use Rattle.rules_table.specs.declared.Object.{Object};
 ghost use Rattle.rules_table.specs.Records.{spaceAt};
 ghost use Rattle.table.specs.Checked.{recordOk};
 ghost use Rattle.layout_mappings.specs.Words.{recordsOf};
+ghost use Rattle.index_search.specs.Indexed.{Indexed};
 ghost use Rattle.rules_calls.specs.Unmap.{asksAll, rangeAsked, removalBy};
 ghost use Rattle.edits.specs.Numbers.{unmapNumberChecksAt, unmapEditAt};
 use ranges::Range;
@@ -54,9 +54,17 @@ fn removal_errno(all: bool, cut: bool, some: bool) -> u8
     checks::refuse_if(cut, 2, checks::refuse_if(none, 2, 0))
 }
 
-// known says whether the id is that of a space.
-pub fn decide_unmap(known: bool, ws: &[[u64; 5]], s: u32, a: u64, n: u64) -> Edit
-    requires { ⌜ (length (now ws) ≡ 128) × ((os : List Object) × Each (λ m. recordOk os m ≡ true) (recordsOf (now ws))) ⌝ }
+// known says whether the id is that of a space, listed how many numbers the index has.
+pub fn decide_unmap<'a>(
+    known: bool,
+    ws: &'a [[u64; 5]],
+    ix: &'a [u64],
+    listed: usize,
+    s: u32,
+    a: u64,
+    n: u64,
+) -> Edit
+    requires { ⌜ Indexed listed (now ix) (recordsOf (now ws)) × (known ≡ true → 0 < s) × ((os : List Object) × Each (λ m. recordOk os m ≡ true) (recordsOf (now ws))) ⌝ }
     ensures { λ e. ⌜ ((os : List Object) → known ≡ spaceAt os s → e ≡ unmapEditAt os (recordsOf (now (ws .entry))) s a n) ⌝ }
 {
     let wrong = unmap_number_errno(known, a, n);
@@ -64,7 +72,7 @@ pub fn decide_unmap(known: bool, ws: &[[u64; 5]], s: u32, a: u64, n: u64) -> Edi
         return edits::refusal(wrong);
     }
     let r = range_asked(a, n);
-    let v = scan::removal_of(ws, s, r);
+    let v = index_search::removal_of(ws, ix, listed, s, r);
     let kept = removal_errno(asks_all(a, n), v.cut, v.some);
     if kept != 0 {
         return edits::refusal(kept);

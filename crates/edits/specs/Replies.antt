@@ -85,16 +85,16 @@ unfolding callEdit outcome
 unlisted-stays t request bytes area f = rw f (refusal-stays t (gateErrno t request bytes) 25)
 
 -- THE LAW: the answer of a command is its edit, applied
+pub row-edit : (r : Row) (t : Table) (e : Edit) (bytes area : List ℕ) → rowDone r t e bytes area .answer ≡ outcome t e
+row-edit Unlisted t e bytes area = refl
+row-edit (Listed Destroy size) t e bytes area = refl
+row-edit (Listed IoasAlloc size) t e bytes area = refl
+row-edit (Listed AllowIovas size) t e bytes area = refl
+row-edit (Listed Copy size) t e bytes area = refl
+row-edit (Listed IovaRanges size) t e bytes area = refl
+row-edit (Listed Map size) t e bytes area = refl
+row-edit (Listed Unmap size) t e bytes area = refl
+
 pub call-edit : (t : Table) (request : ℕ) (bytes area : List ℕ) → callDone t request bytes area .answer ≡ outcome t (callEdit t request bytes area)
 unfolding callDone
-call-edit t request bytes area = go (lookup request)
-  where
-    go : (r : Row) → rowDone r t (callEdit t request bytes area) bytes area .answer ≡ outcome t (callEdit t request bytes area)
-    go Unlisted = refl
-    go (Listed Destroy size) = refl
-    go (Listed IoasAlloc size) = refl
-    go (Listed AllowIovas size) = refl
-    go (Listed Copy size) = refl
-    go (Listed IovaRanges size) = refl
-    go (Listed Map size) = refl
-    go (Listed Unmap size) = refl
+call-edit t request bytes area = row-edit (lookup request) t (callEdit t request bytes area) bytes area

@@ -9,8 +9,9 @@ ghost use Rattle.rules_table.specs.Words.{headIn, objectsIn};
 ghost use Rattle.layout_mappings.specs.Words.{recordsOf};
 ghost use Rattle.check_table.specs.Known.{Known};
 ghost use Rattle.rules_calls.specs.Gate.{tableWith};
+ghost use Rattle.rules_index.specs.Board.{boardHost};
 ghost use Rattle.rules_calls.specs.Answers.{outcome, outcomeId};
-ghost use Rattle.rules_calls.specs.Orders.{orderFor, bindOrder, attachOrder, detachOrder, reachOrder, chargeOrder, reachedBy, actEdit, hostEdit};
+ghost use Rattle.rules_calls.specs.Orders.{orderFor, bindOrder, attachOrder, detachOrder, reachOrder, chargeOrder, nextOrder, reachedBy, actEdit, hostEdit};
 use check_table::Findings;
 use rangelists::Reserved;
 use rules_calls::Act;
@@ -92,17 +93,37 @@ pub fn charge_order() -> Order
     plain_order(Act::Charge, 0, 0)
 }
 
+pub fn next_order(space: u32, address: u64) -> Order
+    ensures { λ o. ⌜ o ≡ nextOrder space address ⌝ }
+{
+    let reserved = Reserved {
+        count: 0,
+        starts: [0; 4],
+        lasts: [0; 4],
+    };
+    Order {
+        act: Act::Next,
+        first: space,
+        second: 0,
+        bitmap: 0,
+        reserved,
+        address,
+        length: 0,
+    }
+}
+
 // ---- deciding
 
 // What an order decides over a good table, by what the check has found of it.
 fn decide_act<'a>(
     h: &'a [u64; 865],
     ws: &'a [[u64; 5]],
+    ix: &'a [u64],
     pages: &'a [u64],
     f: Findings,
     o: Order,
 ) -> Edit
-    requires { ⌜ ((marks : List ℕ) × Known (objectsIn (now h)) (recordsOf (now ws)) (now pages) marks f) ⌝ }
+    requires { ⌜ ((marks : List ℕ) × Known (objectsIn (now h)) (recordsOf (now ws)) (now ix) (now pages) marks f) ⌝ }
     ensures { λ e. ⌜ e ≡ actEdit (tableWith (headIn (now (h .entry)) .limit) (objectsIn (now (h .entry))) (recordsOf (now (ws .entry)))) o (o .act) ⌝ }
 {
     let act = o.act;
@@ -117,32 +138,35 @@ fn decide_act<'a>(
             let device = layout_objects::object_of(h, o.second);
             let page = check_mappings::page_of(pages, o.first);
             let a = ranges::higher(page, 1);
-            host_device::decide_attach(device, first, a, ws, o.second, o.first)
+            host_device::decide_attach(device, first, a, ws, ix, f.listed, o.second, o.first)
         }
         Act::Detach => host_device::decide_detach(first, o.first),
-        Act::Reach(write) => { host_device::reach_of(first, ws, o.address, o.length, write) }
+        Act::Reach(write) => {
+            host_device::reach_of(first, ws, ix, f.listed, o.address, o.length, write)
+        }
         Act::Charge => {
             let p = f.mappings;
             edits::tell(p.charge)
         }
+        Act::Next => host_device::next_of(first, ws, ix, f.listed, o.first, o.address),
     }
 }
 
-// 117 for a bad table, else what the order decides. The table is not changed.
-pub fn decide_host<'a>(h: &'a [u64; 865], ws: &'a [[u64; 5]], o: Order) -> Edit
+// 117 for a bad table and for an index that is not its own, else what the order decides. Nothing is changed.
+pub fn decide_host<'a>(h: &'a [u64; 865], ws: &'a [[u64; 5]], ix: &'a [u64], o: Order) -> Edit
     requires { ⌜ length (now ws) ≡ 128 ⌝ }
-    ensures { λ e. ⌜ e ≡ hostEdit (tableOf (headIn (now (h .entry))) (recordsOf (now (ws .entry)))) o ⌝ }
+    ensures { λ e. ⌜ e ≡ boardHost record { table = tableOf (headIn (now (h .entry))) (recordsOf (now (ws .entry))); index = now (ix .entry) } o ⌝ }
 {
     let mut pages: [u64; 33] = [0; 33];
     let mut marks: [u8; 129] = [0; 129];
-    let f = check_table::check(h, ws, &mut pages, &mut marks);
+    let f = check_table::check(h, ws, ix, &mut pages, &mut marks);
     if !f.good {
         return edits::refusal(117);
     }
-    decide_act(h, ws, &pages, f, o)
+    decide_act(h, ws, ix, &pages, f, o)
 }
 
-// ---- by value
+// ---- by value: the index is worked out from the records
 
 fn decided(t: Table, o: Order) -> Edit
     ensures { λ e. ⌜ e ≡ hostEdit t o ⌝ }
@@ -151,7 +175,9 @@ fn decided(t: Table, o: Order) -> Edit
     let h = layout_objects::head_of(t.limit, os);
     let ms = t.mappings;
     let ws = layout_mappings::words_of(ms);
-    decide_host(&h, &ws, o)
+    let mut ix: [u64; 128] = [0; 128];
+    index_make::make(&ws, &mut ix);
+    decide_host(&h, &ws, &ix, o)
 }
 
 // A new device, loose, with its page sizes and reserved ranges. The result is its id.

@@ -1,37 +1,30 @@
 -- What each return gives, in the words of the definitions of attach and detach.
-use Prim.Native.Nat.{ℕ, _-_, max}
-use mathlib.Core.Path.{_≡_, ap, _∙_}
-use mathlib.Core.Bool.{Bool, false, not, _||_}
+use Prim.Native.Nat.{ℕ, _-_, _<_, max}
+use mathlib.Core.Path.{_≡_, sym, ap, _∙_}
+use mathlib.Core.Bool.{Bool, true, false, not, _||_}
 use mathlib.Core.List.{List}
-use borrow.Author.Tests.{eq-eqb, ne-eqb}
+use borrow.Author.Tests.{eq-eqb, ne-eqb, not-true, not-false}
 use Rattle.lists.specs.Search.{any}
-use Rattle.lists.specs.Checks.{first}
+use Rattle.lists.specs.Checks.{first, first-stays, first-goes}
 use Rattle.ranges.specs.declared.Range.{Range}
-use Rattle.ranges.specs.Ranges.{share, span}
 use Rattle.alignment.specs.Multiples.{fits}
 use Rattle.alignment.specs.Pages.{smallestPage}
-use Rattle.rangelists.specs.declared.Found.{Found}
-use Rattle.rangelists.specs.Listed.{allowed, isFound, firstTouched, firstTouched-any}
+use Rattle.rangelists.specs.Listed.{allowed}
 use Rattle.rules_table.specs.declared.Object.{Object}
 use Rattle.rules_table.specs.declared.Mapping.{Mapping}
-use Rattle.rules_table.specs.Records.{objectAt, spaceAt, isSpace, ofSpace, extent}
+use Rattle.rules_table.specs.Records.{objectAt, spaceAt, isSpace, ofSpace}
 use Rattle.rules_table.specs.Spaces.{alignment}
 use Rattle.rules_table.specs.Good.{listsTouch}
 use Rattle.rules_calls.specs.declared.Edit.{Edit}
 use Rattle.rules_calls.specs.declared.Change.the-variants.{Put}
-use Rattle.rules_calls.specs.Edits.{accept, refuse}
+use Rattle.rules_calls.specs.Edits.{accept, refuse, tells}
 use Rattle.edits.specs.Settled.{settle-refused, settle-taken}
 use Rattle.rules_calls.specs.Attach.{blockedBy, misfits, alignmentWith, attachedObject, looseObject, attachChecks, attachEdit, detachChecks, detachEdit}
+use Rattle.rules_calls.specs.Next.{nextNumber, nextChecks, nextEdit}
+use Rattle.check_reserved.specs.Clear.{strikes}
+use Rattle.host_device.specs.Attached.{attachKinds, attachFits, attach-parts, kinds-refuse, kinds-space, struck-blocked}
 
 module _ (s : ℕ) (m : Mapping) where
-  pub blocked-other : (rs : List Range) → (m .space ≡ s → ⊥) → false ≡ blockedBy s rs m
-  unfolding blockedBy ofSpace
-  blocked-other rs h = rw (ne-eqb (m .space) s h)
-
-  pub blocked-here : (rs : List Range) (r : Range) (f : Found) (b : Bool) → m .space ≡ s → r ≡ span (m .address) (m .length) → f ≡ firstTouched r rs → b ≡ isFound f → b ≡ blockedBy s rs m
-  unfolding blockedBy ofSpace extent
-  blocked-here rs r f b h e k t = rw (eq-eqb (m .space) s h) (t ∙ ap isFound k ∙ firstTouched-any r rs ∙ ap (λ (x : Range). any (share x) rs) e)
-
   pub misfit-other : (a : ℕ) → (m .space ≡ s → ⊥) → false ≡ misfits s a m
   unfolding misfits ofSpace
   misfit-other a h = rw (ne-eqb (m .space) s h)
@@ -42,13 +35,9 @@ module _ (s : ℕ) (m : Mapping) where
 
 -- the checks of attach, by what is known of the space: h is its object and a its alignment
 module _ (os : List Object) (s a : ℕ) (h : Object) (eh : h ≡ objectAt os s) (ea : a ≡ alignment os s) where
-  pub attach-home : (b : Bool) → b ≡ isSpace (h .kind) → not b ≡ not (spaceAt os s)
-  unfolding spaceAt
-  attach-home b e = rw (e, eh)
-
-  pub attach-blocked : (b m l : Bool) (rs : List Range) (ms : List Mapping) → m ≡ any (blockedBy s rs) ms → l ≡ listsTouch rs (allowed (h .allow)) → b ≡ (m || l)
+  pub attach-blocked : (b m l : Bool) (rs : List Range) (ms : List Mapping) → 0 < s → m ≡ any (λ r. any (strikes s r) ms) rs → l ≡ listsTouch rs (allowed (h .allow)) → b ≡ (m || l)
       → b ≡ (any (blockedBy s rs) ms || listsTouch rs (allowed (objectAt os s .allow)))
-  attach-blocked b m l rs ms em el eb = eb ∙ rw (em, el, eh)
+  attach-blocked b m l rs ms h em el eb = eb ∙ rw (em, el, eh, ← struck-blocked s h rs ms)
 
   pub attach-misfit : (b : Bool) (p n : ℕ) (o : Object) (ms : List Mapping) → p ≡ smallestPage (o .bitmap) → n ≡ max p a → b ≡ any (misfits s n) ms
       → b ≡ any (misfits s (alignmentWith os s o)) ms
@@ -57,14 +46,36 @@ module _ (os : List Object) (s a : ℕ) (h : Object) (eh : h ≡ objectAt os s) 
 
 -- a refusal by the checks, or the device with its attachment changed
 module _ (os : List Object) (d : ℕ) (o : Object) (e : o ≡ objectAt os d) where
-  pub attach-refused : (ms : List Mapping) (s n : ℕ) (r : Edit) → n ≡ first (attachChecks os ms o s) 0 → (n ≡ 0 → ⊥) → r ≡ refuse n → r ≡ attachEdit os ms d s
-  unfolding attachEdit
-  attach-refused ms s n r h z q = settle-refused n _ r _ (h ∙ ap (λ (x : Object). first (attachChecks os ms x s) 0) e) z q
+  module _ (ms : List Mapping) (s : ℕ) (h : Object) (eh : h ≡ objectAt os s) (n : ℕ) (en : n ≡ first (attachKinds o h) 0) where
+    kinds : n ≡ first (attachKinds o (objectAt os s)) 0
+    kinds = en ∙ ap (λ (x : Object). first (attachKinds o x) 0) eh
 
-  pub attach-taken : (ms : List Mapping) (s n i : ℕ) (o′ : Object) (r : Edit) → n ≡ first (attachChecks os ms o s) 0 → n ≡ 0
-      → i ≡ d - 1 → o′ ≡ attachedObject o s → r ≡ accept 0 (Put i) o′ → r ≡ attachEdit os ms d s
-  unfolding attachEdit
-  attach-taken ms s n i o′ r h z k p q = settle-taken n _ r _ (h ∙ ap (λ (x : Object). first (attachChecks os ms x s) 0) e) z (q ∙ rw (p, k, e))
+    pub attach-space : n ≡ 0 → 0 < s
+    attach-space z = kinds-space os o s n kinds z
+
+    -- the objects refuse
+    pub attach-wrong : (r : Edit) → (n ≡ 0 → ⊥) → r ≡ refuse n → r ≡ attachEdit os ms d s
+    unfolding attachEdit
+    attach-wrong r z q =
+        settle-refused n _ r _
+        (first-stays (attachKinds o (objectAt os s)) 0 n (first (attachFits os ms o s) 0) kinds z ∙ sym (attach-parts os ms o s) ∙ ap (λ (x : Object). first (attachChecks os ms x s) 0) e) z q
+
+    module _ (zn : n ≡ 0) (k : ℕ) (ek : k ≡ first (attachFits os ms o s) 0) where
+      fits-are : k ≡ first (attachChecks os ms (objectAt os d) s) 0
+      fits-are =
+          first-goes (attachKinds o (objectAt os s)) 0 k (kinds-refuse o (objectAt os s)) (sym zn ∙ kinds)
+          ∙ ap (λ (x : ℕ). first (attachKinds o (objectAt os s)) x) ek
+          ∙ sym (attach-parts os ms o s)
+          ∙ ap (λ (x : Object). first (attachChecks os ms x s) 0) e
+
+      -- what stands in the space refuses
+      pub attach-unfit : (r : Edit) → (k ≡ 0 → ⊥) → r ≡ refuse k → r ≡ attachEdit os ms d s
+      unfolding attachEdit
+      attach-unfit r z q = settle-refused k _ r _ fits-are z q
+
+      pub attach-taken : (i : ℕ) (o′ : Object) (r : Edit) → k ≡ 0 → i ≡ d - 1 → o′ ≡ attachedObject o s → r ≡ accept 0 (Put i) o′ → r ≡ attachEdit os ms d s
+      unfolding attachEdit
+      attach-taken i o′ r z x p q = settle-taken k _ r _ fits-are z (q ∙ rw (p, x, e))
 
   pub detach-refused : (n : ℕ) (r : Edit) → n ≡ first (detachChecks o) 0 → (n ≡ 0 → ⊥) → r ≡ refuse n → r ≡ detachEdit os d
   unfolding detachEdit
@@ -73,3 +84,18 @@ module _ (os : List Object) (d : ℕ) (o : Object) (e : o ≡ objectAt os d) whe
   pub detach-taken : (n i : ℕ) (o′ : Object) (r : Edit) → n ≡ first (detachChecks o) 0 → n ≡ 0 → i ≡ d - 1 → o′ ≡ looseObject o → r ≡ accept 0 (Put i) o′ → r ≡ detachEdit os d
   unfolding detachEdit
   detach-taken n i o′ r h z k p q = settle-taken n _ r _ (h ∙ ap (λ (x : Object). first (detachChecks x) 0) e) z (q ∙ rw (p, k, e))
+
+-- ---- next
+
+module _ (os : List Object) (ms : List Mapping) (s a : ℕ) (o : Object) (e : o ≡ objectAt os s) (b : Bool) (eb : b ≡ isSpace (o .kind)) where
+  known : b ≡ spaceAt os s
+  unfolding spaceAt
+  known = eb ∙ ap (λ (x : Object). isSpace (x .kind)) e
+
+  pub next-refused : (r : Edit) → not b ≡ true → r ≡ refuse 2 → r ≡ nextEdit os ms s a
+  unfolding nextEdit nextChecks first
+  next-refused r z q = q ∙ rw (← known, not-true b z)
+
+  pub next-told : (r : Edit) (n : ℕ) → not b ≡ false → n ≡ nextNumber ms s a → r ≡ tells n → r ≡ nextEdit os ms s a
+  unfolding nextEdit nextChecks first
+  next-told r n z h q = q ∙ rw (h, ← known, not-false b z)

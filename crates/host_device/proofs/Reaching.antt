@@ -5,68 +5,49 @@ use mathlib.Core.Bool.{Bool, true, false, _&&_}
 use mathlib.Core.List.{List}
 use mathlib.Core.Option.{Option, none, some}
 use native.Mathlib.Omega.{arith}
-use lib.ListN.{length, getD, drop}
-use borrow.Author.Tests.{eq-eqb, ne-eqb}
+use borrow.Author.Tests.{not-false}
 use Rattle.lists.specs.Tests.{by-test, and-right}
-use Rattle.lists.specs.Search.{find, find-some, find-some-all, find-found, find-on, find-end}
+use Rattle.lists.specs.Search.{find-some, find-some-all}
 use Rattle.lists.specs.Each.{Each, all-Each}
-use Rattle.lists.specs.Checks.{first}
+use Rattle.lists.specs.Checks.{when, first, passed}
 use Rattle.ranges.specs.declared.Range.{Range}
 use Rattle.ranges.specs.Ranges.{U64MAX, inside, inside-from, inside-upto, span, lastOf, span-some, passes-false}
+use Rattle.rules_table.specs.declared.Kind.{Kind}
 use Rattle.rules_table.specs.declared.Object.{Object}
 use Rattle.rules_table.specs.declared.Mapping.{Mapping}
-use Rattle.rules_table.specs.Records.{objectAt, homeOf, ofSpace, extent, used, canWrite, canRead, zeroMapping}
+use Rattle.rules_table.specs.Records.{objectAt, isAttached, homeOf, ofSpace, extent, used, canWrite, canRead}
 use Rattle.table.specs.Checked.{recordOk}
 use Rattle.table.specs.Facts.{record-used, record-free}
-use Rattle.host_device.specs.declared.Around.{Around}
-use Rattle.host_device.specs.declared.Around.the-variants.{Nothing, In}
+use Rattle.index_search.specs.declared.Source.{Source}
+use Rattle.index_search.specs.declared.Source.the-variants.{Missing, Mapped}
+use Rattle.index_search.specs.Sourced.{sourced}
 use Rattle.rules_calls.specs.declared.Edit.{Edit}
 use Rattle.rules_calls.specs.Edits.{refuse, tells, settle}
 use Rattle.rules_calls.specs.Reach.{around, mayDo, reachChecks, reachOf}
-use Rattle.host_device.specs.Held.{holdsAll, reachIn, reach-split, held}
+use Rattle.host_device.specs.Held.{reachIn, reach-split}
 
 -- ---- one record
 
-module _ (s : ℕ) (r : Range) (m : Mapping) where
-  pub holds-other : (m .space ≡ s → ⊥) → false ≡ holdsAll s r m
-  unfolding holdsAll ofSpace
-  holds-other h = rw (ne-eqb (m .space) s h)
-
-  pub holds-here : (q : Range) (b : Bool) → m .space ≡ s → q ≡ span (m .address) (m .length) → b ≡ inside r q → b ≡ holdsAll s r m
-  unfolding holdsAll ofSpace extent
-  holds-here q b h e k = rw (eq-eqb (m .space) s h) (k ∙ ap (inside r) e)
-
--- ---- the search, from record i on
-
-unfoldable pub aroundLeft : ℕ → List Mapping → ℕ → Range → Around
-aroundLeft i ms s r = held (find (holdsAll s r) (drop i ms))
-
-pub around-start : (ms : List Mapping) (s : ℕ) (r : Range) → aroundLeft 0 ms s r ≡ held (around ms s r)
-unfolding aroundLeft around holdsAll
-around-start ms s r = refl
-
-module _ (ms : List Mapping) (s : ℕ) (r : Range) (i : ℕ) {k : Around} (v : aroundLeft i ms s r ≡ k) where
-  pub around-found : i < length ms → holdsAll s r (getD ms i zeroMapping) ≡ true → In (getD ms i zeroMapping) ≡ k
-  unfolding aroundLeft
-  around-found h e = ap held (find-found (holdsAll s r) ms i refl zeroMapping h e) ∙ v
-
-  pub around-on : i < length ms → holdsAll s r (getD ms i zeroMapping) ≡ false → aroundLeft (i + 1) ms s r ≡ k
-  unfolding aroundLeft
-  around-on h e = ap held (find-on (holdsAll s r) ms i refl zeroMapping h e) ∙ v
-
-  pub around-end : length ms ≤ i → Nothing ≡ k
-  unfolding aroundLeft
-  around-end h = ap held (find-end (holdsAll s r) ms i refl h) ∙ v
-
 -- ---- what was found
 
-from-in : (o : Option Mapping) (m : Mapping) → held o ≡ In m → o ≡ some m
+from-in : (o : Option Mapping) (m : Mapping) → sourced o ≡ Mapped m → o ≡ some m
 from-in none m e = let z : _≡_ {A = ℕ} 0 1 = cc in absurd (omega arith)
 from-in (some n) m e = cc
 
-from-nothing : (o : Option Mapping) → held o ≡ Nothing → o ≡ none
+from-nothing : (o : Option Mapping) → sourced o ≡ Missing → o ≡ none
 from-nothing none e = refl
 from-nothing (some n) e = let z : _≡_ {A = ℕ} 0 1 = cc in absurd (omega arith)
+
+-- what is asked in order is asked of an attached device, whose home is an id
+pub home-pos : (k : Kind) (a n x s : ℕ) → x ≡ first (reachChecks k a n) 0 → x ≡ 0 → s ≡ homeOf k → (isAttached k ≡ true → 0 < homeOf k) → 0 < s
+unfolding reachChecks
+home-pos k a n x s e z h f =
+    let p = passed (reachChecks k a n) 0 (when false 0) (λ y. omega (arith, y), (λ y. omega (arith, y), (λ y. omega (arith, y), (λ y. omega (arith, y), tt)))) (sym e ∙ z) 1 (omega arith) in
+    omega (arith, h, f (not-false (isAttached k) p))
+
+pub asked-some : (a n : ℕ) (r : Range) → r ≡ span a n → a ≤ U64MAX → r .start ≤ r .last
+unfolding span
+asked-some a n r q h = rw q (span-some a n h)
 
 -- a record of a good table ends in memory by U64MAX, also a released one
 memory-last : (os : List Object) (m : Mapping) → recordOk os m ≡ true → m .memory + (m .length - 1) ≤ U64MAX
@@ -79,9 +60,9 @@ inside-place : (a n : ℕ) (m : Mapping) → a ≤ U64MAX → inside (span a n) 
 unfolding span extent lastOf
 inside-place a n m h e = (inside-from (span a n) (extent m) e, omega (arith, inside-upto (span a n) (extent m) e, span-some a n h))
 
-module _ (os : List Object) (ms : List Mapping) (s a n : ℕ) (f : Around) (e : f ≡ held (around ms s (span a n))) where
+module _ (os : List Object) (ms : List Mapping) (s a n : ℕ) (f : Source) (e : f ≡ sourced (around ms s (span a n))) where
   -- the address lies in the mapping found, and what stands for it in memory is below 2^64
-  pub around-fits : (m : Mapping) → f ≡ In m → a ≤ U64MAX → Each (λ m. recordOk os m ≡ true) ms → (m .address ≤ a) × (m .memory + (a - m .address) ≤ U64MAX)
+  pub around-fits : (m : Mapping) → f ≡ Mapped m → a ≤ U64MAX → Each (λ m. recordOk os m ≡ true) ms → (m .address ≤ a) × (m .memory + (a - m .address) ≤ U64MAX)
   unfolding around
   around-fits m g h good =
       let found = from-in (around ms s (span a n)) m (sym e ∙ g) in
@@ -120,15 +101,15 @@ module _ (os : List Object) (ms : List Mapping) (d a n : ℕ) (write : Bool) (o 
   pub reach-refused : (x ≡ 0 → ⊥) → refuse x ≡ reachOf os ms d a n write
   reach-refused h = settled x (first (reachChecks (objectAt os d .kind) a n) 0) (reachIn a write (around ms (homeOf (objectAt os d .kind)) (span a n))) errno h ∙ sym (reach-split os ms d a n write)
 
-  module _ (s : ℕ) (i : Range) (f : Around) (z : x ≡ 0) (hs : s ≡ homeOf (o .kind)) (hi : i ≡ span a n) (hf : f ≡ held (around ms s i)) where
+  module _ (s : ℕ) (i : Range) (f : Source) (z : x ≡ 0) (hs : s ≡ homeOf (o .kind)) (hi : i ≡ span a n) (hf : f ≡ sourced (around ms s i)) where
     same : (k : Option Mapping) → around ms s i ≡ k → reachIn a write k ≡ reachOf os ms d a n write
     same k g =
         ap (reachIn a write) (sym g ∙ ap (λ (j : Range). around ms s j) hi ∙ ap (λ (h : ℕ). around ms h (span a n)) (hs ∙ ap (λ (o : Object). homeOf (o .kind)) p))
         ∙ taken x (first (reachChecks (objectAt os d .kind) a n) 0) (reachIn a write (around ms (homeOf (objectAt os d .kind)) (span a n))) errno z
         ∙ sym (reach-split os ms d a n write)
 
-    pub reach-nowhere : f ≡ Nothing → refuse 14 ≡ reachOf os ms d a n write
+    pub reach-nowhere : f ≡ Missing → refuse 14 ≡ reachOf os ms d a n write
     reach-nowhere g = same none (from-nothing (around ms s i) (sym hf ∙ g))
 
-    pub reach-found : (m : Mapping) (r : Edit) → f ≡ In m → r ≡ reachIn a write (some m) → r ≡ reachOf os ms d a n write
+    pub reach-found : (m : Mapping) (r : Edit) → f ≡ Mapped m → r ≡ reachIn a write (some m) → r ≡ reachOf os ms d a n write
     reach-found m r g k = k ∙ same (some m) (from-in (around ms s i) m (sym hf ∙ g))

@@ -1,27 +1,20 @@
--- The mapping that reach looks for: the test of one record, what is found as the code's enum, and what is answered of it.
+-- What reach answers of the mapping that it looks for.
 use Prim.Native.Nat.{ℕ, zero, suc, _+_, _-_}
 use mathlib.Core.Path.{_≡_, refl, sym, ap, _∙_}
-use mathlib.Core.Bool.{Bool, _&&_, cond}
+use mathlib.Core.Bool.{Bool, cond}
 use mathlib.Core.List.{List, [], _∷_}
 use mathlib.Core.Option.{Option, none, some}
 use native.Mathlib.Omega.{arith}
 use Rattle.lists.specs.Tests.{by-test}
 use Rattle.lists.specs.Checks.{Check, first, first-append, first-fires, first-passes}
 use Rattle.lists.specs.Each.{Each}
-use Rattle.ranges.specs.declared.Range.{Range}
-use Rattle.ranges.specs.Ranges.{inside, span}
+use Rattle.ranges.specs.Ranges.{span}
 use Rattle.rules_table.specs.declared.Mapping.{Mapping}
 use Rattle.rules_table.specs.declared.Object.{Object}
-use Rattle.rules_table.specs.Records.{objectAt, homeOf, ofSpace, extent}
+use Rattle.rules_table.specs.Records.{objectAt, homeOf}
 use Rattle.rules_calls.specs.declared.Edit.{Edit}
 use Rattle.rules_calls.specs.Edits.{refuse, tells, settle}
 use Rattle.rules_calls.specs.Reach.{around, mayDo, reachChecks, heldChecks, memoryAt, reachBy, reachOf}
-use Rattle.host_device.specs.declared.Around.{Around}
-use Rattle.host_device.specs.declared.Around.the-variants.{Nothing, In}
-
--- a mapping of the space that holds the whole interval
-unfoldable pub holdsAll : ℕ → Range → Mapping → Bool
-holdsAll s r m = ofSpace s m && inside r (extent m)
 
 -- what reach answers of the mapping that it found, once what is asked is in order
 abbrev pub reachIn : ℕ → Bool → Option Mapping → Edit
@@ -57,7 +50,3 @@ reach-split os ms d a n write =
     let o = around ms (homeOf k) (span a n) in
     ap (λ (x : ℕ). settle x (tells (memoryAt a o))) (first-append (reachChecks k a n) (heldChecks write o) 0)
     ∙ split a write o (reachChecks k a n) (λ z. omega (arith, z), (λ z. omega (arith, z), (λ z. omega (arith, z), (λ z. omega (arith, z), tt))))
-
-abbrev pub held : Option Mapping → Around
-held none = Nothing
-held (some m) = In m

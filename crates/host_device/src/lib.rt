@@ -3,25 +3,29 @@ ghost use mathlib.Core.Bool.{true};
 ghost use mathlib.Core.List.{List};
 ghost use mathlib.Core.Option.{some};
 ghost use mathlib.Core.Path.{_≡_};
-ghost use Prim.Native.Nat.{ℕ, _+_, _-_, _≤_};
+ghost use Prim.Native.Nat.{ℕ, _+_, _-_, _≤_, _<_};
 ghost use lib.Dec.{ltb};
 ghost use lib.ListN.{length};
 ghost use Rattle.lists.specs.Tests.{onlyIf};
 ghost use Rattle.lists.specs.Search.{any};
 ghost use Rattle.lists.specs.Each.{Each};
 ghost use Rattle.lists.specs.Checks.{first};
-ghost use Rattle.rangelists.specs.Listed.{found, reserved};
+ghost use Rattle.rangelists.specs.Listed.{found};
 ghost use Rattle.ranges.specs.Ranges.{U64MAX};
-ghost use Rattle.rules_table.specs.Records.{objectAt};
+ghost use Rattle.rules_table.specs.Records.{objectAt, isSpace, isAttached, homeOf};
 ghost use Rattle.rules_table.specs.Spaces.{alignment};
 ghost use Rattle.rules_table.specs.Charge.{freeRecord};
 ghost use Rattle.table.specs.Checked.{recordOk};
 ghost use Rattle.rules_table.specs.Fits.{bindChecks};
 ghost use Rattle.rules_calls.specs.Bind.{onlyFirst, trimmed, newDevice, bindEdit};
-ghost use Rattle.rules_calls.specs.Attach.{blockedBy, misfits, attachedObject, looseObject, attachChecks, attachEdit, detachChecks, detachEdit};
-ghost use Rattle.rules_calls.specs.Reach.{around, mayDo, reachChecks, reachOf};
+ghost use Rattle.rules_calls.specs.Attach.{misfits, attachedObject, looseObject, attachEdit, detachChecks, detachEdit};
+ghost use Rattle.rules_calls.specs.Reach.{mayDo, reachChecks, reachOf};
+ghost use Rattle.rules_calls.specs.Next.{nextEdit};
 ghost use Rattle.layout_mappings.specs.Words.{recordsOf};
-ghost use Rattle.host_device.specs.Held.{holdsAll, held, reachIn};
+ghost use Rattle.index_search.specs.Indexed.{Indexed};
+ghost use Rattle.host_device.specs.Held.{reachIn};
+ghost use Rattle.host_device.specs.Attached.{attachKinds, attachFits};
+use index_search::Source;
 use rangelists::Allowed;
 use rangelists::Found;
 use rangelists::Reserved;
@@ -32,12 +36,6 @@ use rules_table::Attachment;
 use rules_table::Kind;
 use rules_table::Mapping;
 use rules_table::Object;
-
-// The mapping that holds an interval.
-enum Around {
-    Nothing,
-    In(Mapping),
-}
 
 // ---- bind
 
@@ -121,31 +119,6 @@ pub fn decide_bind(free: Found, bitmap: u64, l: Reserved) -> Edit
 
 // ---- attach and detach
 
-// Whether a mapping of space s shares an address with one of the ranges.
-fn blocked_by(m: Mapping, s: u32, l: Reserved) -> bool
-    ensures { λ b. ⌜ b ≡ blockedBy s (reserved l) m ⌝ }
-{
-    if m.space != s {
-        return false;
-    }
-    let r = ranges::span_of(m.address, m.length);
-    rangelists::is_found(rangelists::reserved_touched(l, r))
-}
-
-fn touches_mapping(ws: &[[u64; 5]], s: u32, l: Reserved) -> bool
-    ensures { λ b. ⌜ b ≡ any (blockedBy s (reserved l)) (recordsOf (now (ws .entry))) ⌝ }
-{
-    let mut i: usize = 0;
-    while i < ws.len() {
-        let m = layout_mappings::record(ws, i);
-        if blocked_by(m, s, l) {
-            return true;
-        }
-        i += 1;
-    }
-    false
-}
-
 // Whether a mapping of space s does not fit the alignment a.
 fn misfit(m: Mapping, s: u32, a: u64) -> bool
     ensures { λ b. ⌜ b ≡ misfits s a m ⌝ }
@@ -170,36 +143,44 @@ fn some_misfit(ws: &[[u64; 5]], s: u32, a: u64) -> bool
     false
 }
 
-// o is the object to attach, h the object of id s, a the alignment of s.
-fn attach_errno(o: Object, h: Object, a: u64, ws: &[[u64; 5]], s: u32) -> u8
-    ensures { λ r. ⌜ ((os : List Object) → h ≡ objectAt os s → a ≡ alignment os s → r ≡ first (attachChecks os (recordsOf (now (ws .entry))) o s) 0) ⌝ }
+// o is the object to attach, h the object of the space's id.
+fn attach_kind_errno(o: Object, h: Object) -> u8
+    ensures { λ r. ⌜ r ≡ first (attachKinds o h) 0 ⌝ }
 {
     let k = o.kind;
-    let l = o.reserved;
     let home = h.kind;
-    let allow = h.allow;
     let device = table::is_device(k);
     let attached = table::is_attached(k);
     let space = table::is_space(home);
-    let mapped = touches_mapping(ws, s, l);
-    let listed = table::lists_touch(l, allow);
-    let blocked = checks::either(mapped, listed);
-    let page = alignment::smallest_page(o.bitmap);
-    let higher = ranges::higher(page, a);
-    let misaligned = some_misfit(ws, s, higher);
     checks::refuse_if(
         !device,
         2,
-        checks::refuse_if(
-            !space,
-            2,
-            checks::refuse_if(
-                attached,
-                16,
-                checks::refuse_if(blocked, 98, checks::refuse_if(misaligned, 98, 0)),
-            ),
-        ),
+        checks::refuse_if(!space, 2, checks::refuse_if(attached, 16, 0)),
     )
+}
+
+// What stands in space s, of alignment a: its mappings and its allow list against the reserved ranges, its mappings against the alignment.
+fn attach_fit_errno<'a>(
+    o: Object,
+    h: Object,
+    a: u64,
+    ws: &'a [[u64; 5]],
+    ix: &'a [u64],
+    listed: usize,
+    s: u32,
+) -> u8
+    requires { ⌜ Indexed listed (now ix) (recordsOf (now ws)) ⌝ }
+    ensures { λ r. ⌜ ((os : List Object) → h ≡ objectAt os s → a ≡ alignment os s → 0 < s → r ≡ first (attachFits os (recordsOf (now (ws .entry))) o s) 0) ⌝ }
+{
+    let l = o.reserved;
+    let allow = h.allow;
+    let mapped = check_reserved::list_struck(l, ws, ix, listed, s);
+    let allowed = table::lists_touch(l, allow);
+    let blocked = checks::either(mapped, allowed);
+    let page = alignment::smallest_page(o.bitmap);
+    let higher = ranges::higher(page, a);
+    let misaligned = some_misfit(ws, s, higher);
+    checks::refuse_if(blocked, 98, checks::refuse_if(misaligned, 98, 0))
 }
 
 fn attached_object(o: Object, s: u32) -> Object
@@ -216,12 +197,26 @@ fn attached_object(o: Object, s: u32) -> Object
 }
 
 // o and h are the objects of ids d and s, a the alignment of s.
-pub fn decide_attach(o: Object, h: Object, a: u64, ws: &[[u64; 5]], d: u32, s: u32) -> Edit
+pub fn decide_attach<'a>(
+    o: Object,
+    h: Object,
+    a: u64,
+    ws: &'a [[u64; 5]],
+    ix: &'a [u64],
+    listed: usize,
+    d: u32,
+    s: u32,
+) -> Edit
+    requires { ⌜ Indexed listed (now ix) (recordsOf (now ws)) ⌝ }
     ensures { λ e. ⌜ ((os : List Object) → o ≡ objectAt os d → h ≡ objectAt os s → a ≡ alignment os s → e ≡ attachEdit os (recordsOf (now (ws .entry))) d s) ⌝ }
 {
-    let errno = attach_errno(o, h, a, ws, s);
-    if errno != 0 {
-        return edits::refusal(errno);
+    let wrong = attach_kind_errno(o, h);
+    if wrong != 0 {
+        return edits::refusal(wrong);
+    }
+    let unfit = attach_fit_errno(o, h, a, ws, ix, listed, s);
+    if unfit != 0 {
+        return edits::refusal(unfit);
     }
     let n = attached_object(o, s);
     edits::acceptance(0, Change::Put(edits::slot_of(d)), n)
@@ -263,31 +258,6 @@ pub fn decide_detach(o: Object, d: u32) -> Edit
 
 // ---- reach
 
-// Whether a mapping of space s holds the whole interval r.
-fn holds(m: Mapping, s: u32, r: Range) -> bool
-    ensures { λ b. ⌜ b ≡ holdsAll s r m ⌝ }
-{
-    if m.space != s {
-        return false;
-    }
-    let q = ranges::span_of(m.address, m.length);
-    ranges::is_inside(r, q)
-}
-
-fn find_around(ws: &[[u64; 5]], s: u32, r: Range) -> Around
-    ensures { λ f. ⌜ f ≡ held (around (recordsOf (now (ws .entry))) s r) ⌝ }
-{
-    let mut i: usize = 0;
-    while i < ws.len() {
-        let m = layout_mappings::record(ws, i);
-        if holds(m, s, r) {
-            return Around::In(m);
-        }
-        i += 1;
-    }
-    Around::Nothing
-}
-
 // Whether the mapping gives the right that is asked.
 fn may_do(write: bool, m: Mapping) -> bool
     ensures { λ b. ⌜ b ≡ mayDo write m ⌝ }
@@ -327,8 +297,16 @@ fn reach_errno(k: Kind, a: u64, n: u64) -> u8
 }
 
 // The records are those of a good table: so the address in memory is below 2^64.
-pub fn reach_of(o: Object, ws: &[[u64; 5]], a: u64, n: u64, write: bool) -> Edit
-    requires { ⌜ ((os : List Object) × Each (λ m. recordOk os m ≡ true) (recordsOf (now ws))) ⌝ }
+pub fn reach_of<'a>(
+    o: Object,
+    ws: &'a [[u64; 5]],
+    ix: &'a [u64],
+    listed: usize,
+    a: u64,
+    n: u64,
+    write: bool,
+) -> Edit
+    requires { ⌜ Indexed listed (now ix) (recordsOf (now ws)) × (isAttached (o .kind) ≡ true → 0 < homeOf (o .kind)) × ((os : List Object) × Each (λ m. recordOk os m ≡ true) (recordsOf (now ws))) ⌝ }
     ensures { λ r. ⌜ ((os : List Object) (d : ℕ) → o ≡ objectAt os d → r ≡ reachOf os (recordsOf (now (ws .entry))) d a n write) ⌝ }
 {
     let k = o.kind;
@@ -338,9 +316,30 @@ pub fn reach_of(o: Object, ws: &[[u64; 5]], a: u64, n: u64, write: bool) -> Edit
     }
     let s = table::home_of(k);
     let r = ranges::span_of(a, n);
-    let f = find_around(ws, s, r);
-    let Around::In(m) = f else {
+    let f = index_search::find_around(ws, ix, listed, s, r);
+    let Source::Mapped(m) = f else {
         return edits::refusal(14);
     };
     reach_in(m, a, write)
+}
+
+// ---- next
+
+// o is the object of id s. The number of the mapping of space s with the lowest address of those that end at or after a.
+pub fn next_of<'a>(
+    o: Object,
+    ws: &'a [[u64; 5]],
+    ix: &'a [u64],
+    listed: usize,
+    s: u32,
+    a: u64,
+) -> Edit
+    requires { ⌜ Indexed listed (now ix) (recordsOf (now ws)) × (isSpace (o .kind) ≡ true → 0 < s) ⌝ }
+    ensures { λ e. ⌜ ((os : List Object) → o ≡ objectAt os s → e ≡ nextEdit os (recordsOf (now (ws .entry))) s a) ⌝ }
+{
+    let k = o.kind;
+    if !table::is_space(k) {
+        return edits::refusal(2);
+    }
+    edits::tell(index_next::next_number(ws, ix, listed, s, a))
 }

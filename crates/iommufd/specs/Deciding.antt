@@ -9,6 +9,7 @@ use Rattle.rules_calls.specs.declared.Opening.the-variants.{UnknownRequest, NoS
 use Rattle.rules_table.specs.declared.Table.{Table}
 use Rattle.rules_calls.specs.declared.Edit.{Edit}
 use Rattle.rules_calls.specs.Call.{commandEdit, commandDone, callDone, callEdit}
+use Rattle.rules_index.specs.Board.{Board, boardEdit, boardDone}
 
 -- the command of an opening, and any where none is open
 abbrev pub commandIn : Opening → Command
@@ -23,8 +24,14 @@ commandIn (Open c) = c
 abbrev pub Left : Command → Table → List ℕ → List ℕ → Edit → List ℕ → List ℕ → Type 0
 Left c t cmd area e cmd′ area′ = (e ≡ commandEdit c t cmd area) × (cmd′ ≡ commandDone c t e cmd area .bytes) × (area′ ≡ commandDone c t e cmd area .area)
 
--- what deciding leaves: the edit, the command bytes, the range area
-pub record Decided (t : Table) (request : ℕ) (bytes area : List ℕ) (e : Edit) (bytes′ area′ : List ℕ) : Type 0 where
+-- what deciding leaves over a table: the edit, the command bytes, the range area
+pub record Settled (t : Table) (request : ℕ) (bytes area : List ℕ) (e : Edit) (bytes′ area′ : List ℕ) : Type 0 where
   pub edit : e ≡ callEdit t request bytes area
   pub reply : bytes′ ≡ callDone t request bytes area .bytes
   pub ranges : area′ ≡ callDone t request bytes area .area
+
+-- and over a table with its index
+pub record Decided (b : Board) (request : ℕ) (bytes area : List ℕ) (e : Edit) (bytes′ area′ : List ℕ) : Type 0 where
+  pub edit : e ≡ boardEdit b request bytes area
+  pub reply : bytes′ ≡ boardDone b request bytes area .bytes
+  pub ranges : area′ ≡ boardDone b request bytes area .area

@@ -39,9 +39,11 @@ pub fn is_good(t: Table) -> bool
     let h = layout_objects::head_of(t.limit, os);
     let ms = t.mappings;
     let ws = layout_mappings::words_of(ms);
+    let mut ix: [u64; 128] = [0; 128];
+    index_make::make(&ws, &mut ix);
     let mut pages: [u64; 33] = [0; 33];
     let mut marks: [u8; 129] = [0; 129];
-    let f = check_table::check(&h, &ws, &mut pages, &mut marks);
+    let f = check_table::check(&h, &ws, &ix, &mut pages, &mut marks);
     f.good
 }
 
@@ -73,6 +75,7 @@ fn destroy(h: &[u64; 865], id: u32) -> Edit
 fn answer<'a>(
     h: &'a [u64; 865],
     ws: &'a [[u64; 5]],
+    ix: &'a [u64],
     pages: &'a [u64],
     marks: &'a [u8],
     f: Findings,
@@ -80,7 +83,7 @@ fn answer<'a>(
     cmd: &mut [u8],
     area: &mut [u8],
 ) -> Edit
-    requires { ⌜ (requestOf c .size ≤ length (now cmd)) × Known (objectsIn (now h)) (recordsOf (now ws)) (now pages) (now marks) f ⌝ }
+    requires { ⌜ (requestOf c .size ≤ length (now cmd)) × Known (objectsIn (now h)) (recordsOf (now ws)) (now ix) (now pages) (now marks) f ⌝ }
     ensures { λ e. ⌜ Left c (tableWith (headIn (now (h .entry)) .limit) (objectsIn (now (h .entry))) (recordsOf (now (ws .entry)))) (now (cmd .entry)) (now (area .entry)) e (now (cmd .exit)) (now (area .exit)) ⌝ }
 {
     let p = f.mappings;
@@ -94,7 +97,7 @@ fn answer<'a>(
         Command::Copy => {
             let a = check_mappings::page_of(pages, wire::read32(cmd, 8));
             let b = check_mappings::page_of(pages, wire::read32(cmd, 12));
-            cmd_map_bytes::copy(h, ws, p, a, b, cmd)
+            cmd_map_bytes::copy(h, ws, ix, f.listed, a, b, cmd)
         }
         Command::IovaRanges => {
             let a = check_mappings::page_of(pages, wire::read32(cmd, 4));
@@ -102,29 +105,30 @@ fn answer<'a>(
         }
         Command::Map => {
             let page = check_mappings::page_of(pages, wire::read32(cmd, 8));
-            cmd_map_bytes::map(h, ws, p, marks, page, cmd)
+            cmd_map_bytes::map(h, ws, ix, f.listed, p, marks, page, cmd)
         }
         Command::Unmap => {
             let a = check_mappings::page_of(pages, wire::read32(cmd, 4));
-            cmd_map_bytes::unmap(a != 0, ws, cmd)
+            cmd_map_bytes::unmap(a != 0, ws, ix, f.listed, cmd)
         }
     }
 }
 
-// What a command decides: 117, then its opening, then its own checks. The reply is written into its bytes and the range area; the table is not changed.
+// What a command decides: 117, then its opening, then its own checks. The reply is written into its bytes and the range area; table and index are not changed.
 pub fn decide<'a>(
     h: &'a [u64; 865],
     ws: &'a [[u64; 5]],
+    ix: &'a [u64],
     request: u32,
     cmd: &mut [u8],
     area: &mut [u8],
 ) -> Edit
     requires { ⌜ length (now ws) ≡ 128 ⌝ }
-    ensures { λ e. ⌜ Decided (tableOf (headIn (now (h .entry))) (recordsOf (now (ws .entry)))) request (now (cmd .entry)) (now (area .entry)) e (now (cmd .exit)) (now (area .exit)) ⌝ }
+    ensures { λ e. ⌜ Decided record { table = tableOf (headIn (now (h .entry))) (recordsOf (now (ws .entry))); index = now (ix .entry) } request (now (cmd .entry)) (now (area .entry)) e (now (cmd .exit)) (now (area .exit)) ⌝ }
 {
     let mut pages: [u64; 33] = [0; 33];
     let mut marks: [u8; 129] = [0; 129];
-    let f = check_table::check(h, ws, &mut pages, &mut marks);
+    let f = check_table::check(h, ws, ix, &mut pages, &mut marks);
     if !f.good {
         return edits::refusal(117);
     }
@@ -134,7 +138,7 @@ pub fn decide<'a>(
         return edits::refusal(errno);
     }
     let c = command_in(opening);
-    answer(h, ws, &pages, &marks, f, c, cmd, area)
+    answer(h, ws, ix, &pages, &marks, f, c, cmd, area)
 }
 
 // A driver's command: its request number, its bytes and the range area, which are changed in place. The result is 0 or the negative of an errno. A refusal changes
@@ -146,7 +150,9 @@ pub fn call(t: Table, request: u32, cmd: &mut [u8], area: &mut [u8]) -> Answer
     let h = layout_objects::head_of(t.limit, os);
     let ms = t.mappings;
     let ws = layout_mappings::words_of(ms);
-    let e = decide(&h, &ws, request, cmd, area);
+    let mut ix: [u64; 128] = [0; 128];
+    index_make::make(&ws, &mut ix);
+    let e = decide(&h, &ws, &ix, request, cmd, area);
     edits::settled(t, e)
 }
 

@@ -23,7 +23,7 @@ use Rattle.edits.specs.Settled.{checked, checked-last}
 use Rattle.landing.specs.declared.Target.{Target}
 use Rattle.landing.specs.declared.Placing.{Placing}
 use Rattle.rules_calls.specs.Edits.{isNone, numberIn}
-use Rattle.rules_calls.specs.Landing.{blockedIn, automatic, taken, fixedChecks, automaticChecks, placeChecks, placeAt}
+use Rattle.rules_calls.specs.Landing.{blockedIn, lowestTried, automatic, taken, fixedChecks, automaticChecks, placeChecks, placeAt}
 use Rattle.landing.specs.Placing.{placingOf, AutomaticPlaced, Placed}
 
 -- the checks of a fixed address
@@ -38,8 +38,8 @@ fixed-is os s n x a r1 r2 r3 mapped fit touched ea ef et e1 e2 e3 =
     (checked-last mapped mapped 17 r1 0 e1 refl))
 
 -- what was found, as an errno with an address
-pub spot-none : (spot : Spot) → spot ≡ Nowhere → _≡_ {A = Placing} record { errno = 28; address = 0 } (placingOf spot)
-spot-none spot e = rw e
+pub spot-none : (spot : Spot) (r x : ℕ) → r ≡ 28 → x ≡ 0 → spot ≡ Nowhere → _≡_ {A = Placing} record { errno = r; address = x } (placingOf spot)
+spot-none spot r x f g e = rw (f, g, e)
 
 pub spot-at : (spot : Spot) (x : ℕ) → spot ≡ At x → _≡_ {A = Placing} record { errno = 0; address = x } (placingOf spot)
 spot-at spot x e = rw e
@@ -68,12 +68,12 @@ module _ (os : List Object) (ms : List Mapping) (s n : ℕ) where
   }
 
   -- the lowest candidate
-  pub automatic-found : (a : ℕ) (b : Bool) (l : Allowed) (spot : Spot) (p : Placing) → a ≡ alignment os s → b ≡ multiple a n → b ≡ true
-      → l ≡ objectAt os s .allow → spot ≡ spotOf (placeOf a n 0 (blockedIn os ms s) (allowed l)) → p ≡ placingOf spot → AutomaticPlaced os ms s n p
+  pub automatic-found : (a low : ℕ) (b : Bool) (l : Allowed) (spot : Spot) (p : Placing) → a ≡ alignment os s → low ≡ lowestTried → b ≡ multiple a n → b ≡ true
+      → l ≡ objectAt os s .allow → spot ≡ spotOf (placeOf a n low (blockedIn os ms s) (allowed l)) → p ≡ placingOf spot → AutomaticPlaced os ms s n p
   unfolding automatic
-  automatic-found a b l spot p ea eb e eo es ep =
-      let same : automatic os ms s n ≡ placeOf a n 0 (blockedIn os ms s) (allowed l) = rw (ea, eo) refl in
-      rw (ep, es) (spot-placed (ap (λ (y : ℕ). multiple y n) (sym ea) ∙ sym eb ∙ e) (placeOf a n 0 (blockedIn os ms s) (allowed l)) same)
+  automatic-found a low b l spot p ea el eb e eo es ep =
+      let same : automatic os ms s n ≡ placeOf a n low (blockedIn os ms s) (allowed l) = rw (ea, el, eo) refl in
+      rw (ep, es) (spot-placed (ap (λ (y : ℕ). multiple y n) (sym ea) ∙ sym eb ∙ e) (placeOf a n low (blockedIn os ms s) (allowed l)) same)
 
 -- the place of a target
 module _ (os : List Object) (ms : List Mapping) (t : Target) where

@@ -11,6 +11,7 @@ use lib.ListN.{length, getD, drop, drop-of-length-le}
 use borrow.Author.Tests.{leb-true, leb-false, le-leb}
 use Rattle.lists.specs.Tests.{by-test, or-left, or-right, or-other, and-both}
 use Rattle.lists.specs.Search.{any, drop-turn}
+use Rattle.lists.specs.Sums.{countOf-length}
 use Rattle.ranges.specs.declared.Range.{Range}
 use Rattle.ranges.specs.Ranges.{U64MAX, range, inside, lastOf, lastOf-max, span}
 use Rattle.alignment.specs.declared.Spot.{Spot}
@@ -21,7 +22,12 @@ use Rattle.rangelists.specs.declared.Allowed.{Allowed}
 use Rattle.placement.specs.Candidates.{permits, Candidate, placeOf}
 use Rattle.placement.specs.Lowest.{place-lowest}
 use Rattle.placement.specs.Jumps.{lowerOf, inWindows, windowsOf}
-use Rattle.landing.proofs.Searching.{permits-one, permits-only}
+use Rattle.rules_table.specs.declared.Object.{Object}
+use Rattle.rules_table.specs.declared.Mapping.{Mapping}
+use Rattle.rules_table.specs.Records.{ofSpace}
+use Rattle.rules_calls.specs.Landing.{blockedIn}
+use Rattle.reserved_ranges.specs.Gathered.{reservedOf-most}
+use Rattle.gaps.specs.Blocked.{blocked-length, permits-one, permits-only, lowest-same}
 
 -- ---- the lower of two places
 
@@ -43,10 +49,6 @@ lowest-either P Q (At x) (At y) h k =
     by-test (leb x y)
     (λ e. let l = leb-true x y e in let m : min x y ≡ x = omega arith in rw m (inl (h .0), λ z c. ⊎-elim (λ p. h .1 z p) (λ q. omega (arith, k .1 z q)) c))
     (λ e. let l = leb-false x y e in let m : min x y ≡ y = omega arith in rw m (inr (k .0), λ z c. ⊎-elim (λ p. omega (arith, h .1 z p)) (λ q. k .1 z q) c))
-
-lowest-same : (P Q : ℕ → Type 0) → ((x : ℕ) → P x → Q x) → ((x : ℕ) → Q x → P x) → (r : Spot) → Lowest P r → Lowest Q r
-lowest-same P Q f g Nowhere h = λ y c. h y (g y c)
-lowest-same P Q f g (At x) h = (f x (h .0), λ y c. h .1 y (g y c))
 
 -- ---- the windows one after another are the allow list
 
@@ -117,16 +119,20 @@ module _ (a n low : ℕ) (rs : List Range) where
 
 -- ---- the loop over the windows, at window i
 
--- the best so far and what is left give the answer, and in each window there were at most n jumps
-pub record Joined (a size low : ℕ) (rs ws : List Range) (n m : ℕ) (best : Spot) (jumps i : ℕ) : Type 0 where
-  pub same : lowerOf best (inWindows a size low rs (drop i ws)) ≡ inWindows a size low rs ws
+pub blocked-most : (os : List Object) (ms : List Mapping) (s : ℕ) → length (blockedIn os ms s) ≤ 4 * length os + length ms
+blocked-most os ms s = omega (arith, blocked-length os ms s, reservedOf-most os s, countOf-length (ofSpace s) ms)
+
+-- given G, the best so far and what is left give the answer; and in each window there were at most n jumps
+pub record Joined (G : Type 0) (a size low : ℕ) (rs ws : List Range) (n m : ℕ) (best : Spot) (jumps i : ℕ) : Type 0 where
+  pub same : G → lowerOf best (inWindows a size low rs (drop i ws)) ≡ inWindows a size low rs ws
   pub upto : i ≤ m
   pub few : jumps ≤ i * n
 
-pub join-start : (a size low : ℕ) (rs ws : List Range) (n m : ℕ) → Joined a size low rs ws n m Nowhere 0 0
-join-start a size low rs ws n m = record { same = refl; upto = omega arith; few = omega arith }
+pub join-start : (G : Type 0) (a size low : ℕ) (rs ws : List Range) (n m : ℕ) → Joined G a size low rs ws n m Nowhere 0 0
+join-start G a size low rs ws n m = record { same = λ g. refl; upto = omega arith; few = omega arith }
 
 module _
+    (G : Type 0)
     (a size low : ℕ)
     (rs : List Range)
     (n m : ℕ)
@@ -135,15 +141,15 @@ module _
     (hl : m ≤ length ls)
     (best : Spot)
     (jumps i : ℕ)
-    (v : Joined a size low rs (listed m ss ls) n m best jumps i) where
+    (v : Joined G a size low rs (listed m ss ls) n m best jumps i) where
   pub join-small : n ≤ 256 → m ≤ 8 → jumps ≤ 2048
   join-small h k = omega (arith, v .few, mul-le-mul-right {m = i} {n = 8} n (omega (arith, v .upto)))
 
-  pub join-on : (s t : Spot) (j : ℕ) → i < m → (s ≡ spotOf (placeOf a size low rs (range (getD ss i 0) (getD ls i 0) ∷ []))) × (j ≤ n)
-      → t ≡ lowerOf best s → Joined a size low rs (listed m ss ls) n m t (jumps + j) (i + 1)
+  pub join-on : (s t : Spot) (j : ℕ) → i < m → (G → s ≡ spotOf (placeOf a size low rs (range (getD ss i 0) (getD ls i 0) ∷ []))) × (j ≤ n)
+      → t ≡ lowerOf best s → Joined G a size low rs (listed m ss ls) n m t (jumps + j) (i + 1)
   join-on s t j h e f = record {
-    same =
-        rw (f, e .0) (lower-assoc best (spotOf (placeOf a size low rs (range (getD ss i 0) (getD ls i 0) ∷ []))) (inWindows a size low rs (drop (i + 1) (listed m ss ls))) ∙ ap (lowerOf best) (sym left) ∙ v .same);
+    same = λ g.
+        rw (f, e .0 g) (lower-assoc best (spotOf (placeOf a size low rs (range (getD ss i 0) (getD ls i 0) ∷ []))) (inWindows a size low rs (drop (i + 1) (listed m ss ls))) ∙ ap (lowerOf best) (sym left) ∙ v .same g);
     upto = omega arith;
     few = omega (arith, v .few, e .1, add-mul i 1 n, one-mul n);
   }
@@ -154,8 +160,8 @@ module _
           ∙ windows-cons a size low rs (getD (listed m ss ls) i zeroRange) (drop (i + 1) (listed m ss ls))
           ∙ rw (getD-listed m ss ls hs hl i h)
 
-  pub join-end : m ≤ i → (best ≡ inWindows a size low rs (listed m ss ls)) × (jumps ≤ m * n)
-  join-end h = (sym (rw (done, windows-nil a size low rs) (lower-nowhere best)) ∙ v .same, let e : i ≡ m = omega (arith, v .upto) in rw (← e) (v .few))
+  pub join-end : m ≤ i → (G → best ≡ inWindows a size low rs (listed m ss ls)) × (jumps ≤ m * n)
+  join-end h = (λ g. sym (rw (done, windows-nil a size low rs) (lower-nowhere best)) ∙ v .same g, let e : i ≡ m = omega (arith, v .upto) in rw (← e) (v .few))
     where
       all : length (listed m ss ls) ≤ i
       all = rw (length-listed m ss ls hs hl) h
@@ -170,38 +176,38 @@ none-listed [] e = refl
 none-listed (q ∷ qs) e = absurd (omega arith)
 
 -- an answer as the contract of `place` has it
-abbrev pub Placed : ℕ → ℕ → ℕ → List Range → List Range → Spot → ℕ → Type 0
-Placed a size low rs qs s jumps = (s ≡ spotOf (placeOf a size low rs qs)) × (jumps ≤ windowsOf qs * length rs)
+abbrev pub Placed : Type 0 → ℕ → ℕ → ℕ → List Range → List Range → Spot → ℕ → Type 0
+Placed G a size low rs qs s jumps = (G → s ≡ spotOf (placeOf a size low rs qs)) × (jumps ≤ windowsOf qs * length rs)
 
-module _ (a size low : ℕ) (rs : List Range) (s : Spot) (jumps : ℕ) where
-  open-placed : (qs : List Range) → length qs ≡ 0 → (s ≡ spotOf (placeOf a size low rs (range 0 U64MAX ∷ []))) × (jumps ≤ length rs)
-      → Placed a size low rs qs s jumps
+module _ (G : Type 0) (a size low : ℕ) (rs : List Range) (s : Spot) (jumps : ℕ) where
+  open-placed : (qs : List Range) → length qs ≡ 0 → (G → s ≡ spotOf (placeOf a size low rs (range 0 U64MAX ∷ []))) × (jumps ≤ length rs)
+      → Placed G a size low rs qs s jumps
   unfolding windowsOf
-  open-placed qs z e = rw (none-listed qs z) (e .0 ∙ windows-open a size low rs, omega (arith, e .1, one-mul (length rs)))
+  open-placed qs z e = rw (none-listed qs z) (λ g. e .0 g ∙ windows-open a size low rs, omega (arith, e .1, one-mul (length rs)))
 
-  listed-placed : (qs : List Range) → (length qs ≡ 0 → ⊥) → (s ≡ inWindows a size low rs qs) × (jumps ≤ length qs * length rs) → Placed a size low rs qs s jumps
+  listed-placed : (qs : List Range) → (length qs ≡ 0 → ⊥) → (G → s ≡ inWindows a size low rs qs) × (jumps ≤ length qs * length rs) → Placed G a size low rs qs s jumps
   unfolding windowsOf
   listed-placed [] z e = absurd (z refl)
-  listed-placed (q ∷ qs) z e = (e .0 ∙ windows-listed a size low rs q qs, e .1)
+  listed-placed (q ∷ qs) z e = (λ g. e .0 g ∙ windows-listed a size low rs q qs, e .1)
 
 -- without an allow list in one window, else in each of its ranges
-module _ (a size low : ℕ) (rs : List Range) (q : Allowed) (s : Spot) (jumps : ℕ) where
-  pub place-open : q .count ≡ 0 → (s ≡ spotOf (placeOf a size low rs (range 0 U64MAX ∷ []))) × (jumps ≤ length rs) → Placed a size low rs (allowed q) s jumps
+module _ (G : Type 0) (a size low : ℕ) (rs : List Range) (q : Allowed) (s : Spot) (jumps : ℕ) where
+  pub place-open : q .count ≡ 0 → (G → s ≡ spotOf (placeOf a size low rs (range 0 U64MAX ∷ []))) × (jumps ≤ length rs) → Placed G a size low rs (allowed q) s jumps
   unfolding allowed listed
-  place-open z e = open-placed a size low rs s jumps (allowed q) (rw z) e
+  place-open z e = open-placed G a size low rs s jumps (allowed q) (rw z) e
 
   module _ (n : ℕ) (hn : n ≡ min (q .count) 8) (qs : length (q .starts) ≡ 8) (ql : length (q .lasts) ≡ 8) where
     allowed-is : allowed q ≡ listed n (q .starts) (q .lasts)
     unfolding allowed
     allowed-is = rw hn
 
-    pub each-listed : (s ≡ inWindows a size low rs (listed n (q .starts) (q .lasts))) × (jumps ≤ n * length rs)
-        → (s ≡ inWindows a size low rs (allowed q)) × (jumps ≤ length (allowed q) * length rs)
+    pub each-listed : (G → s ≡ inWindows a size low rs (listed n (q .starts) (q .lasts))) × (jumps ≤ n * length rs)
+        → (G → s ≡ inWindows a size low rs (allowed q)) × (jumps ≤ length (allowed q) * length rs)
     each-listed e = rw (allowed-is, length-listed n (q .starts) (q .lasts) (omega arith) (omega arith)) e
 
   pub place-listed : length (q .starts) ≡ 8 → length (q .lasts) ≡ 8 → (q .count ≡ 0 → ⊥)
-      → (s ≡ inWindows a size low rs (allowed q)) × (jumps ≤ length (allowed q) * length rs) → Placed a size low rs (allowed q) s jumps
+      → (G → s ≡ inWindows a size low rs (allowed q)) × (jumps ≤ length (allowed q) * length rs) → Placed G a size low rs (allowed q) s jumps
   unfolding allowed
   place-listed qs ql z e =
-      listed-placed a size low rs s jumps (allowed q)
+      listed-placed G a size low rs s jumps (allowed q)
       (λ f. z (omega (arith, f, length-listed (min (q .count) 8) (q .starts) (q .lasts) (omega arith) (omega arith)))) e

@@ -1,4 +1,2 @@
 pub mod Finding
-pub mod Passing
-pub mod Searching
 pub mod Joining

@@ -3,33 +3,24 @@
 use Prim.Native.Nat.{ℕ, _≤_}
 use mathlib.Core.Path.{_≡_, refl, sym, ap, _∙_}
 use mathlib.Core.Bool.{Bool, true, false, not, _||_}
-use mathlib.Core.List.{List, [], _∷_, map}
+use mathlib.Core.List.{List, [], _∷_}
 use mathlib.Core.Option.{Option, none, some}
 use native.Mathlib.Omega.{arith}
 use borrow.Author.Tests.{not-false}
 use Rattle.lists.specs.Tests.{contrary, and-both, or-not-left, or-not-right}
-use Rattle.lists.specs.Search.{any, any-append}
-use Rattle.lists.specs.Sums.{keep, any-keep}
-use Rattle.lists.specs.Update.{any-map}
+use Rattle.lists.specs.Search.{any}
 use Rattle.lists.specs.Checks.{Check, when, first, first-fires, first-passes, Refusals, passed}
-use Rattle.ranges.specs.declared.Range.{Range}
 use Rattle.ranges.specs.Ranges.{share, passes, span}
 use Rattle.alignment.specs.Multiples.{multiple, fits, fits-length, Lowest, spotOf}
 use Rattle.rangelists.specs.Listed.{allowed}
 use Rattle.placement.specs.Lowest.{place-lowest}
 use Rattle.rules_table.specs.declared.Object.{Object}
 use Rattle.rules_table.specs.declared.Mapping.{Mapping}
-use Rattle.rules_table.specs.Records.{objectAt, ofSpace, extent, touches}
+use Rattle.rules_table.specs.Records.{objectAt, touches}
 use Rattle.rules_table.specs.Spaces.{alignment, reservedOf}
 use Rattle.rules_calls.specs.Edits.{isNone, numberIn}
+use Rattle.gaps.specs.Blocked.{any-blocked}
 use Rattle.rules_calls.specs.Landing.{blockedIn, lowestTried, automatic, taken, fixedChecks, automaticChecks, placeChecks, placeAt, CandidateIn}
-
--- the blocked ranges are touched exactly where a reserved range or a mapping of the space is
-pub any-blocked : (os : List Object) (ms : List Mapping) (s : ℕ) (r : Range) → any (share r) (blockedIn os ms s) ≡ (any (share r) (reservedOf os s) || any (touches s r) ms)
-unfolding blockedIn touches
-any-blocked os ms s r =
-    any-append (share r) (reservedOf os s) (map extent (keep (ofSpace s) ms))
-    ∙ ap (λ (b : Bool). any (share r) (reservedOf os s) || b) (any-map (share r) extent (keep (ofSpace s) ms) ∙ any-keep (λ m. share r (extent m)) (ofSpace s) ms)
 
 pub record Landed (os : List Object) (ms : List Mapping) (s n x : ℕ) : Type 0 where
   pub aligned : fits (alignment os s) x n ≡ true

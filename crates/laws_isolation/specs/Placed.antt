@@ -6,24 +6,18 @@ use mathlib.Core.List.{List}
 use Rattle.lists.specs.Search.{any}
 use Rattle.ranges.specs.declared.Range.{Range}
 use Rattle.ranges.specs.Ranges.{share, span}
-use Rattle.alignment.specs.declared.Spot.{Spot}
-use Rattle.alignment.specs.declared.Spot.the-variants.{Nowhere, At}
-use Rattle.alignment.specs.Multiples.{multiple, Lowest, lowest-one, spotOf}
+use Rattle.alignment.specs.Multiples.{multiple, lowest-one, spotOf}
 use Rattle.placement.specs.Candidates.{permits}
 use Rattle.rules_table.specs.declared.Table.{Table}
 use Rattle.rules_table.specs.Records.{touches}
 use Rattle.rules_table.specs.Spaces.{alignment, reservedOf}
 use Rattle.rules_calls.specs.Edits.{numberIn}
 use Rattle.rules_calls.specs.Landing.{blockedIn, automatic, taken, fixedChecks, automaticChecks, placeChecks, placeAt, CandidateIn}
-use Rattle.landing.specs.Landed.{any-blocked, automatic-lowest}
+use Rattle.gaps.specs.Blocked.{any-blocked, lowest-same}
+use Rattle.landing.specs.Landed.{automatic-lowest}
 use Rattle.rules_history.specs.Alike.{Alike}
 use Rattle.laws_isolation.specs.Mappings.{touches-alike, taken-alike}
 use Rattle.laws_isolation.specs.Devices.{any-reserved, alignment-alike}
-
--- the lowest of the one is the lowest of the other
-lowest-same : (P Q : ℕ → Type 0) (r : Spot) → ((x : ℕ) → P x → Q x) → ((x : ℕ) → Q x → P x) → Lowest P r → Lowest Q r
-lowest-same P Q Nowhere to back l = λ y q. l y (back y q)
-lowest-same P Q (At x) to back l = (to x (l .0), λ y q. l .1 y (back y q))
 
 -- agreeing goes both ways
 pub turned : (s : ℕ) (t u : Table) → Alike s t u → Alike s u t
@@ -64,8 +58,8 @@ module _ (s : ℕ) (t u : Table) (a : Alike s t u) where
 pub automatic-alike : (s : ℕ) (t u : Table) → Alike s t u → (n : ℕ) → automatic (t .objects) (t .mappings) s n ≡ automatic (u .objects) (u .mappings) s n
 automatic-alike s t u a n =
     lowest-one (CandidateIn (u .objects) (u .mappings) s n) (automatic (t .objects) (t .mappings) s n) (automatic (u .objects) (u .mappings) s n)
-    (lowest-same (CandidateIn (t .objects) (t .mappings) s n) (CandidateIn (u .objects) (u .mappings) s n) (spotOf (automatic (t .objects) (t .mappings) s n))
-    (candidate-alike s t u a n) (candidate-alike s u t (turned s t u a) n) (automatic-lowest (t .objects) (t .mappings) s n))
+    (lowest-same (CandidateIn (t .objects) (t .mappings) s n) (CandidateIn (u .objects) (u .mappings) s n) (candidate-alike s t u a n) (candidate-alike s u t (turned s t u a) n)
+    (spotOf (automatic (t .objects) (t .mappings) s n)) (automatic-lowest (t .objects) (t .mappings) s n))
     (automatic-lowest (u .objects) (u .mappings) s n)
 
 module _ (s : ℕ) (t u : Table) (a : Alike s t u) (n x : ℕ) where

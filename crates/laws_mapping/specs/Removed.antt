@@ -65,7 +65,7 @@ cleared-alone s r ms h c =
     any-Each-false (touches s r) (map (release (within s r)) ms)
     (Each-map (λ m. cutBy s r m ≡ false) (λ m. touches s r m ≡ false) (release (within s r)) ms (λ m. left-alone s r m h) (Each-any-false (cutBy s r) ms c))
 
-space-some : (os : List Object) (s : ℕ) → spaceAt os s ≡ true → 1 ≤ s
+pub space-some : (os : List Object) (s : ℕ) → spaceAt os s ≡ true → 1 ≤ s
 unfolding spaceAt
 space-some os s e = space-id os s e
 

@@ -25,7 +25,7 @@ use Rattle.table.specs.Facts.{record-used}
 use Rattle.edits.specs.Settled.{space-id}
 use Rattle.laws_good.specs.DeviceKept.{device-slot}
 use Rattle.rules_calls.specs.Reach.{around}
-use Rattle.host_device.specs.Held.{holdsAll}
+use Rattle.index.specs.Touched.{wraps}
 use Rattle.laws_reach.specs.Plain.{Holding, Asked}
 
 -- ---- the device's space
@@ -55,8 +55,8 @@ module _ (t : Table) (g : Sound t) (d s a n : ℕ) (q : Asked t d s a n) where
   unfolding ofSpace used
   space-used m o = rw (ne-eqb (m .space) 0 (λ z. omega (arith, z, eqb-true (m .space) s o, home-some t g d s (q .attached))))
 
-  held-test : (m : Mapping) → Holding t s a n m → holdsAll s (span a n) m ≡ true
-  unfolding holdsAll ofSpace extent inside span
+  held-test : (m : Mapping) → Holding t s a n m → wraps s (span a n) m ≡ true
+  unfolding wraps ofSpace extent inside span
   held-test m h =
       let ok = ap (recordOk (t .objects)) (sym (h .stands)) ∙ record-at (h .slot) (h .there) in
       let o = eq-eqb (m .space) s (omega (arith, h .space)) in
@@ -68,8 +68,8 @@ module _ (t : Table) (g : Sound t) (d s a n : ℕ) (q : Asked t d s a n) where
       (le-leb (m .address) a (omega (arith, h .from)))
       (le-leb x y (omega (arith, h .upto, q .some, r .some, lastOf-fits a n no-pass, lastOf-fits (m .address) (m .length) (r .ends)))))
 
-  test-held : (i : ℕ) → i < length (t .mappings) → holdsAll s (span a n) (getD (t .mappings) i zeroMapping) ≡ true → Holding t s a n (getD (t .mappings) i zeroMapping)
-  unfolding holdsAll ofSpace extent span
+  test-held : (i : ℕ) → i < length (t .mappings) → wraps s (span a n) (getD (t .mappings) i zeroMapping) ≡ true → Holding t s a n (getD (t .mappings) i zeroMapping)
+  unfolding wraps ofSpace extent span
   test-held i l e =
       let m = getD (t .mappings) i zeroMapping in
       let o = and-left (ofSpace s m) (inside (span a n) (extent m)) e in
@@ -87,8 +87,8 @@ module _ (t : Table) (g : Sound t) (d s a n : ℕ) (q : Asked t d s a n) where
       }
 
   -- what passes covers the first address, and of the mappings of a good table at most one does
-  test-covers : (m : Mapping) → holdsAll s (span a n) m ≡ true → covers s a m ≡ true
-  unfolding holdsAll covers extent span
+  test-covers : (m : Mapping) → wraps s (span a n) m ≡ true → covers s a m ≡ true
+  unfolding wraps covers extent span
   test-covers m e =
       let o = and-left (ofSpace s m) (inside (span a n) (extent m)) e in
       let j = and-right (ofSpace s m) (inside (span a n) (extent m)) e in
@@ -100,24 +100,24 @@ module _ (t : Table) (g : Sound t) (d s a n : ℕ) (q : Asked t d s a n) where
 
   -- THE LAWS: the mapping that holds it is found, and what is found holds it
   pub held-found : (m : Mapping) → Holding t s a n m → around (t .mappings) s (span a n) ≡ some m
-  unfolding around holdsAll
+  unfolding around wraps
   held-found m h =
       let e = h .stands in
-      find-only (holdsAll s (span a n)) (covers s a) test-covers (t .mappings) zeroMapping (g .once s a) (h .slot) (h .there) (ap (holdsAll s (span a n)) e ∙ held-test m h) ∙ ap some e
+      find-only (wraps s (span a n)) (covers s a) test-covers (t .mappings) zeroMapping (g .once s a) (h .slot) (h .there) (ap (wraps s (span a n)) e ∙ held-test m h) ∙ ap some e
 
   pub found-held : (m : Mapping) → around (t .mappings) s (span a n) ≡ some m → Holding t s a n m
-  unfolding around holdsAll
+  unfolding around wraps
   found-held m e =
-      let w = find-slot (holdsAll s (span a n)) (t .mappings) zeroMapping m e in
-      subst (λ (x : Mapping). Holding t s a n x) (w .2) (test-held (w .0) (w .1) (ap (holdsAll s (span a n)) (w .2) ∙ find-some (holdsAll s (span a n)) (t .mappings) m e))
+      let w = find-slot (wraps s (span a n)) (t .mappings) zeroMapping m e in
+      subst (λ (x : Mapping). Holding t s a n x) (w .2) (test-held (w .0) (w .1) (ap (wraps s (span a n)) (w .2) ∙ find-some (wraps s (span a n)) (t .mappings) m e))
 
   -- where none holds it none is found, and where none is found none holds it
   pub unheld-none : ((m : Mapping) → Holding t s a n m → ⊥) → around (t .mappings) s (span a n) ≡ none
-  unfolding around holdsAll
+  unfolding around wraps
   unheld-none f =
-      find-any-false (holdsAll s (span a n)) (t .mappings)
-      (by-test (any (holdsAll s (span a n)) (t .mappings))
-      (λ e. let w = any-slot (holdsAll s (span a n)) (t .mappings) zeroMapping e in absurd (f (getD (t .mappings) (w .0) zeroMapping) (test-held (w .0) (w .1) (w .2))))
+      find-any-false (wraps s (span a n)) (t .mappings)
+      (by-test (any (wraps s (span a n)) (t .mappings))
+      (λ e. let w = any-slot (wraps s (span a n)) (t .mappings) zeroMapping e in absurd (f (getD (t .mappings) (w .0) zeroMapping) (test-held (w .0) (w .1) (w .2))))
       (λ e. e))
 
   pub none-unheld : around (t .mappings) s (span a n) ≡ none → (m : Mapping) → Holding t s a n m → ⊥

@@ -1,5 +1,5 @@
 -- The same laws for the archive's host entry, whose contract for reach is `LentHost`: the table is the one that the caller's head and mapping
--- records stand for. Where the result is 0 the address stands in word 0, and a refusal leaves the words.
+-- records stand for, with the index of these beside it. Where the result is 0 the address stands in word 0, and a refusal leaves the words.
 use Prim.Native.Nat.{ℕ, _≤_}
 use mathlib.Core.Path.{_≡_, sym, ap, _∙_}
 use mathlib.Core.Bool.{true}
@@ -13,34 +13,44 @@ use Rattle.opening.specs.Signed.{result-none, result-errno}
 use Rattle.rules_table.specs.declared.Mapping.{Mapping}
 use Rattle.rules_table.specs.Good.{good}
 use Rattle.rules_calls.specs.declared.Edit.{Edit}
+use Rattle.rules_calls.specs.Results.{result}
 use Rattle.rules_calls.specs.declared.Reached.{Reached}
 use Rattle.rules_calls.specs.Named.{reachCall}
 use Rattle.rules_calls.specs.Orders.{reachOrder, hostEdit}
 use Rattle.rules_table.specs.declared.Head.{Head}
 use Rattle.rules_table.specs.Layout.{tableOf}
+use Rattle.rules_index.specs.Board.{goodBoard, boardHost}
+use Rattle.rules_lent.specs.Lent.{boardOf}
 use Rattle.rules_lent.specs.Entries.{LentHost, isWrite}
+use Rattle.laws_board.specs.Answers.{good-table, good-index, host-same}
 use Rattle.laws_reach.specs.Plain.{Reaches, Denied, Nowhere}
 use Rattle.laws_reach.specs.Reach.{answers, reach-0, reach-1, reach-14}
 
-module _ (h : Head) (ms : List Mapping) (g : good (tableOf h ms) ≡ true) (d a n w : ℕ) (words : List ℕ) (r : ℤ) (h′ : Head) (ms′ : List Mapping)
-    (words′ : List ℕ)
-    (c : LentHost h ms (reachOrder d a n (isWrite w)) words r h′ ms′ words′) (room : 10 ≤ length words) where
+module _ (h : Head) (ms : List Mapping) (ix : List ℕ) (gb : goodBoard (boardOf h ms ix) ≡ true) (d a n w : ℕ) (words : List ℕ) (r : ℤ) (h′ : Head) (ms′ : List Mapping)
+    (ix′ words′ : List ℕ)
+    (c : LentHost h ms ix (reachOrder d a n (isWrite w)) words r h′ ms′ ix′ words′) (room : 10 ≤ length words) where
   abbrev e : Edit
-  e = hostEdit (tableOf h ms) (reachOrder d a n (isWrite w))
+  e = boardHost (boardOf h ms ix) (reachOrder d a n (isWrite w))
 
   abbrev reach : Reached
   reach = reachCall (tableOf h ms) d a n (isWrite w)
 
+  g : good (tableOf h ms) ≡ true
+  g = good-table (boardOf h ms ix) gb
+
+  same : e ≡ hostEdit (tableOf h ms) (reachOrder d a n (isWrite w))
+  same = host-same (boardOf h ms ix) (good-index (boardOf h ms ix) gb) (reachOrder d a n (isWrite w))
+
   -- the entry's result is reach's, and beside 0 stands its address
   result-is : r ≡ reach .result
   unfolding reachCall
-  result-is = c .result
+  result-is = c .result ∙ ap (λ (x : Edit). result (x .errno)) same
 
   address-is : r ≡ pos 0 → getD words′ 0 0 ≡ reach .address
   unfolding reachCall
   address-is z =
       let k : e .errno ≡ 0 = result-none (e .errno) (sym (c .result) ∙ z) in
-      ap (λ (l : List ℕ). getD l 0 0) (c .told) ∙ rw (eq-eqb (e .errno) 0 k) (getD-set-same words 0 (e .value) 0 (omega (arith, room)))
+      ap (λ (l : List ℕ). getD l 0 0) (c .told) ∙ rw (eq-eqb (e .errno) 0 k) (getD-set-same words 0 (e .value) 0 (omega (arith, room))) ∙ ap (λ (x : Edit). x .value) same
 
   words-stay : (k : ℕ) → r ≡ negsuc k → words′ ≡ words
   words-stay k z =

@@ -20,7 +20,7 @@ use Rattle.edits.specs.Replies.{call-edit}
 use Rattle.rules_history.specs.Calls.{Call, replyOf, tableAfter}
 use Rattle.laws_refusal.specs.EveryCall.{Same, call-refused}
 
-bad-edit : (t : Table) (request : ℕ) (bytes area : List ℕ) → good t ≡ false → callEdit t request bytes area ≡ refuse 117
+pub bad-edit : (t : Table) (request : ℕ) (bytes area : List ℕ) → good t ≡ false → callEdit t request bytes area ≡ refuse 117
 unfolding callEdit gateErrno
 bad-edit t request bytes area g = rw g
 
@@ -28,7 +28,7 @@ bad-answer : (t : Table) (request : ℕ) (bytes area : List ℕ) → good t ≡ 
 unfolding outcome applied result
 bad-answer t request bytes area g = call-edit t request bytes area ∙ ap (outcome t) (bad-edit t request bytes area g)
 
-bad-host : (t : Table) (o : Order) → good t ≡ false → hostEdit t o ≡ refuse 117
+pub bad-host : (t : Table) (o : Order) → good t ≡ false → hostEdit t o ≡ refuse 117
 unfolding hostEdit tableErrno
 bad-host t o g = rw g
 

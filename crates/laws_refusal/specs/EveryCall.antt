@@ -48,7 +48,8 @@ module _ (t : Table) (k : ℕ) where
 
 -- ---- every call: no refusal but 90 changes the table or the command
 
-abbrev sent : Call → List ℕ
+-- the command bytes
+abbrev pub sent : Call → List ℕ
 sent (Call.Command request bytes area) = bytes
 sent (Call.Bind bitmap l) = []
 sent (Call.Attach d s) = []

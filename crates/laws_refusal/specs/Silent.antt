@@ -18,7 +18,7 @@ use Rattle.rules_calls.specs.declared.Row.{Row}
 use Rattle.rules_calls.specs.declared.Row.the-variants.{Unlisted, Listed}
 use Rattle.rules_calls.specs.declared.Change.the-variants as Changes
 use Rattle.rules_calls.specs.declared.Act.{Act}
-use Rattle.rules_calls.specs.declared.Act.the-variants.{Bind, Attach, Detach, Reach, Charge}
+use Rattle.rules_calls.specs.declared.Act.the-variants.{Bind, Attach, Detach, Reach, Charge, Next}
 use Rattle.rules_calls.specs.declared.Order.{Order}
 use Rattle.rules_calls.specs.Edits.{tells}
 use Rattle.rules_calls.specs.Requests.{lookup}
@@ -31,6 +31,7 @@ use Rattle.rules_calls.specs.Unmap.{removedBytes, rangeAsked, unmapEdit}
 use Rattle.rules_calls.specs.Bind.{newDevice, bindEdit, bindRule}
 use Rattle.rules_calls.specs.Attach.{attachedObject, looseObject, attachChecks, attachEdit, detachChecks, detachEdit}
 use Rattle.rules_calls.specs.Reach.{around, memoryAt, reachChecks, heldChecks, reachBy, reachOf}
+use Rattle.rules_calls.specs.Next.{nextNumber, nextChecks, nextEdit}
 use Rattle.rules_calls.specs.Orders.{actEdit, hostEdit}
 use Rattle.rules_calls.specs.Call.{commandEdit, rowEdit, callEdit}
 use Rattle.edits.specs.Numbers.{mapChecksAt, copyChecksAt, unmapChecksAt, allowChecksAt}
@@ -64,7 +65,7 @@ unfolding reachBy
 silent-reach k a n write o = silent-settle (first (reachChecks k a n ++ heldChecks write o) 0) (tells (memoryAt a o)) (silent-accept (memoryAt a o) Changes.Nothing freeObject)
 
 silent-act : (t : Table) (o : Order) (k : Act) → Silent (actEdit t o k)
-unfolding bindEdit attachEdit detachEdit reachOf
+unfolding bindEdit attachEdit detachEdit reachOf nextEdit
 silent-act t o Bind = silent-settle (first (bindRule (t .objects) (o .bitmap) (o .reserved)) 0) _ (silent-added (freeRecord (t .objects)) (newDevice (o .bitmap) (o .reserved)))
 silent-act t o Attach = silent-settle (first (attachChecks (t .objects) (t .mappings) (objectAt (t .objects) (o .second)) (o .first)) 0) _ (silent-accept 0 (Changes.Put (o .second - 1)) (attachedObject (objectAt (t .objects) (o .second)) (o .first)))
 silent-act t o Detach = silent-settle (first (detachChecks (objectAt (t .objects) (o .first))) 0) _ (silent-accept 0 (Changes.Put (o .first - 1)) (looseObject (objectAt (t .objects) (o .first))))
@@ -72,6 +73,8 @@ silent-act t o (Reach write) =
     let k = objectAt (t .objects) (o .first) .kind in
     silent-reach k (o .address) (o .length) write (around (t .mappings) (homeOf k) (span (o .address) (o .length)))
 silent-act t o Charge = λ h. refl
+silent-act t o Next =
+    silent-settle (first (nextChecks (t .objects) (o .first)) 0) _ (silent-accept (nextNumber (t .mappings) (o .first) (o .address)) Changes.Nothing freeObject)
 
 pub silent-host : (t : Table) (o : Order) → Silent (hostEdit t o)
 unfolding hostEdit

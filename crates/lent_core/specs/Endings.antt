@@ -1,4 +1,4 @@
--- How the calls end: what is decided and written is what the entries promise, and so is 117 for another number of records.
+-- How the calls end: what is decided and written is what the entries promise, and so is 117 for another number of records or of words beside them.
 use Prim.Native.Nat.{ℕ, _≤_, _<_}
 use mathlib.Core.Path.{_≡_, refl, sym, ap, subst, _∙_}
 use mathlib.Core.Bool.{false}
@@ -13,7 +13,6 @@ use Rattle.opening.specs.Signed.{result-zero}
 use Rattle.rules_calls.specs.Results.{result}
 use Rattle.rules_table.specs.declared.Mapping.{Mapping}
 use Rattle.rules_table.specs.declared.Head.{Head}
-use Rattle.rules_table.specs.Good.{good}
 use Rattle.rules_table.specs.Records.{zeroMapping}
 use Rattle.rules_table.specs.Limits.{mostLimit}
 use Rattle.rules_table.specs.Layout.{tableOf, freshHead}
@@ -22,10 +21,12 @@ use Rattle.table.specs.Sound.{good-sound}
 use Rattle.rules_calls.specs.declared.Edit.{Edit}
 use Rattle.rules_calls.specs.declared.Order.{Order}
 use Rattle.rules_calls.specs.Edits.{refuse}
-use Rattle.rules_calls.specs.Gate.{gateErrno, tableErrno}
-use Rattle.rules_calls.specs.Orders.{hostEdit}
-use Rattle.rules_lent.specs.Lent.{headAfter, recordsAfter}
-use Rattle.rules_lent.specs.Entries.{LentCall, Preview, LentHost, LentFresh, LentNone, orderIn}
+use Rattle.rules_index.specs.Board.{goodBoard, indexAfter, boardHost}
+use Rattle.rules_lent.specs.Lent.{headAfter, recordsAfter, boardOf}
+use Rattle.rules_lent.specs.Entries.{LentCall, Preview, LentHost, LentFresh, LentNone, freshErrno, orderIn}
+use Rattle.laws_board.specs.Answers.{good-table}
+use Rattle.laws_board.specs.Refused.{bad-board, board-bad, board-host-bad}
+use Rattle.laws_board.specs.Deciding.{board-host-index}
 use Rattle.layout_mappings.specs.Words.{recordsOf}
 use Rattle.lent_records.specs.Loading.{Loaded}
 use Rattle.lent_records.specs.Records.{stored}
@@ -33,26 +34,25 @@ use Rattle.lent_records.specs.Lent.{stored-wipe}
 use Rattle.lent_records.specs.Stored.{stored-keep}
 use Rattle.lent_records.specs.declared.Records.the-variants.{Wipe}
 use Rattle.iommufd.specs.Deciding.{Decided}
-use Rattle.iommufd.proofs.Dispatching.{refused}
 use Rattle.lent_core.specs.declared.Served.{Served}
 use Rattle.lent_core.specs.Serving.{CallServed, PreviewServed, HostServed}
 use Rattle.lent_core.specs.Edits.{servedBy, toldIn, told-none, records-written}
 
 -- ---- another number of records
 
-module _ (h : Head) (ms : List Mapping) (n : length ms ≡ 128 → ⊥) where
+module _ (h : Head) (ms : List Mapping) (ix : List ℕ) (n : length ms ≡ 128 → ⊥) where
   -- a slice of another length stands for no good table
-  short-bad : good (tableOf h ms) ≡ false
+  short-bad : goodBoard (boardOf h ms ix) ≡ false
   unfolding tableOf
-  short-bad = by-test (good (tableOf h ms)) (λ g. absurd (n (good-sound (tableOf h ms) g .counted))) (λ g. g)
+  short-bad = by-test (goodBoard (boardOf h ms ix)) (λ g. absurd (n (good-sound (tableOf h ms) (good-table (boardOf h ms ix) g) .counted))) (λ g. g)
 
-  short-edit : (o : Order) → refuse 117 ≡ hostEdit (tableOf h ms) o
-  unfolding hostEdit tableErrno
-  short-edit o = rw short-bad
+  short-edit : (o : Order) → refuse 117 ≡ boardHost (boardOf h ms ix) o
+  short-edit o = sym (board-host-bad (boardOf h ms ix) short-bad o .0)
 
-  short-decided : (request : ℕ) (cmd area : List ℕ) → Decided (tableOf h ms) request cmd area (refuse 117) cmd area
-  unfolding gateErrno
-  short-decided request cmd area = refused (tableOf h ms) cmd area request 117 (refuse 117) (rw short-bad) (λ z. omega (arith, z)) refl
+  short-decided : (request : ℕ) (cmd area : List ℕ) → Decided (boardOf h ms ix) request cmd area (refuse 117) cmd area
+  short-decided request cmd area =
+      let q = board-bad (boardOf h ms ix) short-bad request cmd area .1 in
+      record { edit = sym (bad-board (boardOf h ms ix) short-bad request cmd area); reply = sym (q .1); ranges = sym (q .2) }
 
 -- a refusal writes nothing
 refused-head : (n : ℕ) (h : Head) → h ≡ headAfter (refuse n) h
@@ -61,52 +61,51 @@ refused-head n h = refl
 
 -- ---- commands
 
-module _ (h : Head) (ms : List Mapping) (request : ℕ) (cs rs cs′ rs′ : List ℕ) (e : Edit) (d : Decided (tableOf h ms) request cs rs e cs′ rs′) where
-  lent-done : (s : Served) (h′ : Head) → s ≡ servedBy e → h′ ≡ headAfter e h → LentCall h ms request cs rs (s .result) h′ (stored (s .records) ms) cs′ rs′
+module _ (h : Head) (ms : List Mapping) (ix : List ℕ) (request : ℕ) (cs rs cs′ rs′ : List ℕ) (e : Edit) (d : Decided (boardOf h ms ix) request cs rs e cs′ rs′) where
+  lent-done : (s : Served) (h′ : Head) (ix′ : List ℕ) → s ≡ servedBy e → h′ ≡ headAfter e h → ix′ ≡ indexAfter (e .change) ms ix
+      → LentCall h ms ix request cs rs (s .result) h′ (stored (s .records) ms) ix′ cs′ rs′
   unfolding servedBy
-  lent-done s h′ es eh = record {
+  lent-done s h′ ix′ es eh ex = record {
     result = ap (λ (x : Served). x .result) es ∙ ap (λ (x : Edit). result (x .errno)) (d .edit);
     head = eh ∙ ap (λ (x : Edit). headAfter x h) (d .edit);
     records = ap (λ (x : Served). stored (x .records) ms) es ∙ records-written ms e ∙ ap (λ (x : Edit). recordsAfter x ms) (d .edit);
+    index = ex ∙ ap (λ (x : Edit). indexAfter (x .change) ms ix) (d .edit);
     reply = d .reply;
     ranges = d .ranges;
   }
 
-  told-done : (r : ℤ) → r ≡ result (e .errno) → Preview h ms request cs rs r h ms cs′ rs′
-  told-done r er = record { result = er ∙ ap (λ (x : Edit). result (x .errno)) (d .edit); head = refl; records = refl; reply = d .reply; ranges = d .ranges }
+  told-done : (r : ℤ) → r ≡ result (e .errno) → Preview h ms ix request cs rs r h ms ix cs′ rs′
+  told-done r er = record { result = er ∙ ap (λ (x : Edit). result (x .errno)) (d .edit); head = refl; records = refl; index = refl; reply = d .reply; ranges = d .ranges }
 
 module _ (h : List ℕ) (count : ℕ) (ws : List (List ℕ)) (bs : List ℕ) (request : ℕ) (cs rs : List ℕ) where
   pub call-short : (s : Served) (k : ℕ) → (count ≡ 128 → ⊥) → s ≡ servedBy (refuse k) → k ≡ 117 → CallServed h count ws bs request cs rs s h bs cs rs
   call-short s k n es z = record {
-    served = λ ms c l. (
-      lent-done (headIn h) ms request cs rs cs rs (refuse 117) (short-decided (headIn h) ms (λ x. n (sym c ∙ x)) request cs rs) s (headIn h)
-          (es ∙ ap (λ (m : ℕ). servedBy (refuse m)) z) (refused-head 117 (headIn h)),
-      refl,
-    );
+    served = λ ms c l.
+        lent-done (headIn h) ms bs request cs rs cs rs (refuse 117) (short-decided (headIn h) ms bs (λ x. n (sym c ∙ x)) request cs rs) s (headIn h) bs
+        (es ∙ ap (λ (m : ℕ). servedBy (refuse m)) z) (refused-head 117 (headIn h)) refl;
   }
 
-  pub call-done : (s : Served) (h′ cs′ rs′ : List ℕ) (e : Edit) → count ≡ 128 → Decided (tableOf (headIn h) (recordsOf ws)) request cs rs e cs′ rs′
-      → s ≡ servedBy e → headIn h′ ≡ headAfter e (headIn h)
-      → CallServed h count ws bs request cs rs s h′ bs cs′ rs′
-  call-done s h′ cs′ rs′ e n d es eh = record {
-    served = λ ms c l. (
-      lent-done (headIn h) ms request cs rs cs′ rs′ e
-          (subst (λ (zs : List Mapping). Decided (tableOf (headIn h) zs) request cs rs e cs′ rs′) (l .same (c ∙ n)) d) s (headIn h′) es eh,
-      refl,
-    );
+  pub call-done : (s : Served) (h′ bs′ cs′ rs′ : List ℕ) (e : Edit) → count ≡ 128 → Decided (boardOf (headIn h) (recordsOf ws) bs) request cs rs e cs′ rs′
+      → s ≡ servedBy e → headIn h′ ≡ headAfter e (headIn h) → bs′ ≡ indexAfter (e .change) (recordsOf ws) bs
+      → CallServed h count ws bs request cs rs s h′ bs′ cs′ rs′
+  call-done s h′ bs′ cs′ rs′ e n d es eh ex = record {
+    served = λ ms c l.
+        lent-done (headIn h) ms bs request cs rs cs′ rs′ e
+        (subst (λ (zs : List Mapping). Decided (boardOf (headIn h) zs bs) request cs rs e cs′ rs′) (l .same (c ∙ n)) d) s (headIn h′) bs′ es eh
+        (ex ∙ ap (λ (zs : List Mapping). indexAfter (e .change) zs bs) (l .same (c ∙ n)));
   }
 
   pub preview-short : (r : ℤ) (k : ℕ) → (count ≡ 128 → ⊥) → r ≡ result k → k ≡ 117 → PreviewServed h count ws bs request cs rs r cs rs
   preview-short r k n er z = record {
-    served = λ ms c l. told-done (headIn h) ms request cs rs cs rs (refuse 117) (short-decided (headIn h) ms (λ x. n (sym c ∙ x)) request cs rs) r
+    served = λ ms c l. told-done (headIn h) ms bs request cs rs cs rs (refuse 117) (short-decided (headIn h) ms bs (λ x. n (sym c ∙ x)) request cs rs) r
         (er ∙ ap result z);
   }
 
-  pub preview-done : (r : ℤ) (cs′ rs′ : List ℕ) (e : Edit) → count ≡ 128 → Decided (tableOf (headIn h) (recordsOf ws)) request cs rs e cs′ rs′
+  pub preview-done : (r : ℤ) (cs′ rs′ : List ℕ) (e : Edit) → count ≡ 128 → Decided (boardOf (headIn h) (recordsOf ws) bs) request cs rs e cs′ rs′
       → r ≡ result (e .errno) → PreviewServed h count ws bs request cs rs r cs′ rs′
   preview-done r cs′ rs′ e n d er = record {
-    served = λ ms c l. told-done (headIn h) ms request cs rs cs′ rs′ e
-        (subst (λ (zs : List Mapping). Decided (tableOf (headIn h) zs) request cs rs e cs′ rs′) (l .same (c ∙ n)) d) r er;
+    served = λ ms c l. told-done (headIn h) ms bs request cs rs cs′ rs′ e
+        (subst (λ (zs : List Mapping). Decided (boardOf (headIn h) zs bs) request cs rs e cs′ rs′) (l .same (c ∙ n)) d) r er;
   }
 
 -- ---- host calls
@@ -120,7 +119,7 @@ orElse p none = p
 orElse p (some o) = o
 
 -- what a kind that is none asks
-pub no-order : (kind : ℕ) (vs : List ℕ) → 5 < kind → orderIn kind vs ≡ none
+pub no-order : (kind : ℕ) (vs : List ℕ) → 6 < kind → orderIn kind vs ≡ none
 unfolding orderIn
 no-order kind vs k =
     rw (
@@ -129,27 +128,29 @@ no-order kind vs k =
       ne-eqb kind 3 (λ z. omega (arith, z, k)),
       ne-eqb kind 4 (λ z. omega (arith, z, k)),
       ne-eqb kind 5 (λ z. omega (arith, z, k)),
+      ne-eqb kind 6 (λ z. omega (arith, z, k)),
     )
 
 fresh-order : (kind : ℕ) (vs : List ℕ) → kind ≡ 0 → orderIn kind vs ≡ none
 unfolding orderIn
 fresh-order kind vs k = rw k
 
--- an edit of the order, committed and told
-module _ (h : Head) (ms : List Mapping) (o : Order) (vs : List ℕ) (e : Edit) (d : e ≡ hostEdit (tableOf h ms) o) where
+-- an edit of the order, committed and told; the index stays
+module _ (h : Head) (ms : List Mapping) (ix : List ℕ) (o : Order) (vs : List ℕ) (e : Edit) (d : e ≡ boardHost (boardOf h ms ix) o) where
   order-done : (s : Served) (h′ : Head) (vs′ : List ℕ) → s ≡ servedBy e → h′ ≡ headAfter e h → vs′ ≡ toldIn (e .errno) (e .value) vs
-      → LentHost h ms o vs (s .result) h′ (stored (s .records) ms) vs′
+      → LentHost h ms ix o vs (s .result) h′ (stored (s .records) ms) ix vs′
   unfolding servedBy toldIn
   order-done s h′ vs′ es eh ev = record {
     result = ap (λ (x : Served). x .result) es ∙ ap (λ (x : Edit). result (x .errno)) d;
     head = eh ∙ ap (λ (x : Edit). headAfter x h) d;
     records = ap (λ (x : Served). stored (x .records) ms) es ∙ records-written ms e ∙ ap (λ (x : Edit). recordsAfter x ms) d;
+    index = sym (board-host-index (boardOf h ms ix) o ms ix);
     told = ev ∙ ap (λ (x : Edit). toldIn (x .errno) (x .value) vs) d;
   }
 
 -- fresh: for every slice of so many records
-pub record FreshServed (h : List ℕ) (count limit : ℕ) (s : Served) (h′ : List ℕ) : Type 0 where
-  pub served : (ms : List Mapping) → length ms ≡ count → LentFresh (headIn h) ms limit (s .result) (headIn h′) (stored (s .records) ms)
+pub record FreshServed (h : List ℕ) (count : ℕ) (bs : List ℕ) (limit : ℕ) (s : Served) (h′ bs′ : List ℕ) : Type 0 where
+  pub served : (ms : List Mapping) → length ms ≡ count → LentFresh (headIn h) ms bs limit (s .result) (headIn h′) (stored (s .records) ms) bs′
 
 refused-records : (n : ℕ) (ms : List Mapping) → stored (servedBy (refuse n) .records) ms ≡ ms
 unfolding servedBy
@@ -159,107 +160,111 @@ refused-result : (n : ℕ) → servedBy (refuse n) .result ≡ result n
 unfolding servedBy
 refused-result n = refl
 
-module _ (h : List ℕ) (count limit : ℕ) where
-  pub fresh-short : (s : Served) (k : ℕ) → (count ≡ 128 → ⊥) → s ≡ servedBy (refuse k) → k ≡ 117 → FreshServed h count limit s h
-  fresh-short s k n es z = record {
-    served = λ ms c. rw (es, z) (record {
-      result = rw (ne-eqb (length ms) 128 (λ z. n (sym c ∙ z))) (refused-result 117);
-      head = rw (ne-eqb (length ms) 128 (λ z. n (sym c ∙ z)));
-      records = rw (ne-eqb (length ms) 128 (λ z. n (sym c ∙ z))) (refused-records 117 ms);
+-- the errno of fresh
+errno-short : (ms : List Mapping) (ix : List ℕ) (limit : ℕ) → (length ms ≡ 128 → ⊥) → freshErrno ms ix limit ≡ 117
+errno-short ms ix limit n = rw (ne-eqb (length ms) 128 n)
+
+errno-other : (ms : List Mapping) (ix : List ℕ) (limit : ℕ) → length ms ≡ 128 → (length ix ≡ 128 → ⊥) → freshErrno ms ix limit ≡ 117
+errno-other ms ix limit l n = rw (eq-eqb (length ms) 128 l, ne-eqb (length ix) 128 n)
+
+errno-over : (ms : List Mapping) (ix : List ℕ) (limit : ℕ) → length ms ≡ 128 → length ix ≡ 128 → mostLimit < limit → freshErrno ms ix limit ≡ 22
+errno-over ms ix limit l k m = rw (eq-eqb (length ms) 128 l, eq-eqb (length ix) 128 k, lt-ltb mostLimit limit m)
+
+errno-none : (ms : List Mapping) (ix : List ℕ) (limit : ℕ) → length ms ≡ 128 → length ix ≡ 128 → limit ≤ mostLimit → freshErrno ms ix limit ≡ 0
+errno-none ms ix limit l k m = rw (eq-eqb (length ms) 128 l, eq-eqb (length ix) 128 k, le-ltb mostLimit limit m)
+
+module _ (h : List ℕ) (count : ℕ) (bs : List ℕ) (limit : ℕ) where
+  -- an errno other than 0 leaves everything
+  fresh-refused : (s : Served) (n : ℕ) → ((ms : List Mapping) → length ms ≡ count → freshErrno ms bs limit ≡ n) → (n ≡ 0 → ⊥) → s ≡ servedBy (refuse n) → FreshServed h count bs limit s h bs
+  fresh-refused s n f z es = record {
+    served = λ ms c. rw es (record {
+      result = rw (f ms c) (refused-result n);
+      head = rw (f ms c, ne-eqb n 0 z);
+      records = rw (f ms c, ne-eqb n 0 z) (refused-records n ms);
+      index = rw (f ms c, ne-eqb n 0 z);
     });
   }
 
-  pub fresh-over : (s : Served) (k : ℕ) → count ≡ 128 → mostLimit < limit → s ≡ servedBy (refuse k) → k ≡ 22 → FreshServed h count limit s h
-  fresh-over s k n l es z = record {
-    served = λ ms c. rw (es, z) (record {
-      result = rw (eq-eqb (length ms) 128 (c ∙ n), lt-ltb mostLimit limit l) (refused-result 22);
-      head = rw (eq-eqb (length ms) 128 (c ∙ n), lt-ltb mostLimit limit l);
-      records = rw (eq-eqb (length ms) 128 (c ∙ n), lt-ltb mostLimit limit l) (refused-records 22 ms);
-    });
-  }
+  pub fresh-short : (s : Served) (k : ℕ) → (count ≡ 128 → ⊥) → s ≡ servedBy (refuse k) → k ≡ 117 → FreshServed h count bs limit s h bs
+  fresh-short s k n es z = fresh-refused s k (λ ms c. errno-short ms bs limit (λ x. n (sym c ∙ x)) ∙ sym z) (λ x. omega (arith, x, z)) es
 
-  pub fresh-made : (h′ : List ℕ) → count ≡ 128 → limit ≤ mostLimit → headIn h′ ≡ freshHead limit
-      → FreshServed h count limit (record { result = pos 0; records = Wipe }) h′
-  fresh-made h′ n l eh = record {
+  pub fresh-other : (s : Served) (k : ℕ) → count ≡ 128 → (length bs ≡ 128 → ⊥) → s ≡ servedBy (refuse k) → k ≡ 117 → FreshServed h count bs limit s h bs
+  fresh-other s k l n es z = fresh-refused s k (λ ms c. errno-other ms bs limit (c ∙ l) n ∙ sym z) (λ x. omega (arith, x, z)) es
+
+  pub fresh-over : (s : Served) (k : ℕ) → count ≡ 128 → length bs ≡ 128 → mostLimit < limit → s ≡ servedBy (refuse k) → k ≡ 22 → FreshServed h count bs limit s h bs
+  fresh-over s k l n m es z = fresh-refused s k (λ ms c. errno-over ms bs limit (c ∙ l) n m ∙ sym z) (λ x. omega (arith, x, z)) es
+
+  pub fresh-made : (h′ bs′ : List ℕ) → count ≡ 128 → length bs ≡ 128 → limit ≤ mostLimit → headIn h′ ≡ freshHead limit → bs′ ≡ replicate 128 0
+      → FreshServed h count bs limit (record { result = pos 0; records = Wipe }) h′ bs′
+  fresh-made h′ bs′ n k l eh ex = record {
     served = λ ms c. record {
-      result = rw (eq-eqb (length ms) 128 (c ∙ n), le-ltb mostLimit limit l) (sym result-zero);
-      head = rw (eq-eqb (length ms) 128 (c ∙ n), le-ltb mostLimit limit l) eh;
-      records = rw (eq-eqb (length ms) 128 (c ∙ n), le-ltb mostLimit limit l) (stored-wipe ms ∙ ap (λ (k : ℕ). replicate k zeroMapping) (c ∙ n));
+      result = rw (errno-none ms bs limit (c ∙ n) k l) (sym result-zero);
+      head = rw (errno-none ms bs limit (c ∙ n) k l) eh;
+      records = rw (errno-none ms bs limit (c ∙ n) k l) (stored-wipe ms ∙ ap (λ (k : ℕ). replicate k zeroMapping) (c ∙ n));
+      index = rw (errno-none ms bs limit (c ∙ n) k l) ex;
     };
   }
 
-none-served : (h : Head) (ms : List Mapping) (vs : List ℕ) (n k : ℕ) (s : Served) → s ≡ servedBy (refuse k) → k ≡ n
-    → LentNone h ms vs n (s .result) h (stored (s .records) ms) vs
-none-served h ms vs n k s es z = rw (es, z) (record { result = refused-result n; head = refl; records = refused-records n ms; told = refl })
+none-served : (h : Head) (ms : List Mapping) (ix vs : List ℕ) (n k : ℕ) (s : Served) → s ≡ servedBy (refuse k) → k ≡ n
+    → LentNone h ms ix vs n (s .result) h (stored (s .records) ms) ix vs
+none-served h ms ix vs n k s es z = rw (es, z) (record { result = refused-result n; head = refl; records = refused-records n ms; index = refl; told = refl })
 
 module _ (h : List ℕ) (count : ℕ) (ws : List (List ℕ)) (bs : List ℕ) (kind : ℕ) (vs : List ℕ) where
   pub host-short : (s : Served) (k : ℕ) → length vs < 10 → s ≡ servedBy (refuse k) → k ≡ 14 → HostServed h count ws bs kind vs s h bs vs
   host-short s k l es z = record {
-    served = λ ms c x. (
-      record {
-        short = λ _. none-served (headIn h) ms vs 14 k s es z;
-        fresh = λ y. absurd (omega (arith, y, l));
-        unknown = λ y. absurd (omega (arith, y, l));
-        ordered = λ o y. absurd (omega (arith, y, l));
-      },
-      refl,
-    );
+    served = λ ms c x. record {
+      short = λ _. none-served (headIn h) ms bs vs 14 k s es z;
+      fresh = λ y. absurd (omega (arith, y, l));
+      unknown = λ y. absurd (omega (arith, y, l));
+      ordered = λ o y. absurd (omega (arith, y, l));
+    };
   }
 
-  pub host-fresh : (s : Served) (h′ : List ℕ) → 10 ≤ length vs → kind ≡ 0 → FreshServed h count (getD vs 0 0) s h′ → HostServed h count ws bs kind vs s h′ bs vs
-  host-fresh s h′ l k f = record {
-    served = λ ms c x. (
-      record {
-        short = λ z. absurd (omega (arith, z, l));
-        fresh = λ _ _. (f .served ms c, refl);
-        unknown = λ _ z. absurd (z k);
-        ordered = λ o _ z. absurd (omega (arith, ap numberOf (sym (fresh-order kind vs k) ∙ z)));
-      },
-      refl,
-    );
+  pub host-fresh : (s : Served) (h′ bs′ : List ℕ) → 10 ≤ length vs → kind ≡ 0 → FreshServed h count bs (getD vs 0 0) s h′ bs′ → HostServed h count ws bs kind vs s h′ bs′ vs
+  host-fresh s h′ bs′ l k f = record {
+    served = λ ms c x. record {
+      short = λ z. absurd (omega (arith, z, l));
+      fresh = λ _ _. (f .served ms c, refl);
+      unknown = λ _ z. absurd (z k);
+      ordered = λ o _ z. absurd (omega (arith, ap numberOf (sym (fresh-order kind vs k) ∙ z)));
+    };
   }
 
-  pub host-unknown : (s : Served) (n : ℕ) → 10 ≤ length vs → 5 < kind → s ≡ servedBy (refuse n) → n ≡ 25 → HostServed h count ws bs kind vs s h bs vs
+  pub host-unknown : (s : Served) (n : ℕ) → 10 ≤ length vs → 6 < kind → s ≡ servedBy (refuse n) → n ≡ 25 → HostServed h count ws bs kind vs s h bs vs
   host-unknown s n l k es y = record {
-    served = λ ms c x. (
-      record {
-        short = λ z. absurd (omega (arith, z, l));
-        fresh = λ _ z. absurd (omega (arith, z, k));
-        unknown = λ _ _ _. none-served (headIn h) ms vs 25 n s es y;
-        ordered = λ o _ z. absurd (omega (arith, ap numberOf (sym (no-order kind vs k) ∙ z)));
-      },
-      refl,
-    );
+    served = λ ms c x. record {
+      short = λ z. absurd (omega (arith, z, l));
+      fresh = λ _ z. absurd (omega (arith, z, k));
+      unknown = λ _ _ _. none-served (headIn h) ms bs vs 25 n s es y;
+      ordered = λ o _ z. absurd (omega (arith, ap numberOf (sym (no-order kind vs k) ∙ z)));
+    };
   }
 
   -- an order
   module _ (o : Order) (l : 10 ≤ length vs) (k : kind ≡ 0 → ⊥) (asked : orderIn kind vs ≡ some o) where
-    only-order : (s : Served) (h′ vs′ : List ℕ)
-        → ((ms : List Mapping) → length ms ≡ count → Loaded ms ws → LentHost (headIn h) ms o vs (s .result) (headIn h′) (stored (s .records) ms) vs′)
-        → HostServed h count ws bs kind vs s h′ bs vs′
-    only-order s h′ vs′ f = record {
-      served = λ ms c x. (
-        record {
-          short = λ z. absurd (omega (arith, z, l));
-          fresh = λ _ z. absurd (k z);
-          unknown = λ _ _ z. absurd (omega (arith, ap numberOf (sym z ∙ asked)));
-          ordered = λ p _ z. subst (λ (y : Order). LentHost (headIn h) ms y vs (s .result) (headIn h′) (stored (s .records) ms) vs′)
-              (ap (orElse o) (sym asked ∙ z)) (f ms c x);
-        },
-        refl,
-      );
+    only-order : (s : Served) (h′ bs′ vs′ : List ℕ)
+        → ((ms : List Mapping) → length ms ≡ count → Loaded ms ws → LentHost (headIn h) ms bs o vs (s .result) (headIn h′) (stored (s .records) ms) bs′ vs′)
+        → HostServed h count ws bs kind vs s h′ bs′ vs′
+    only-order s h′ bs′ vs′ f = record {
+      served = λ ms c x. record {
+        short = λ z. absurd (omega (arith, z, l));
+        fresh = λ _ z. absurd (k z);
+        unknown = λ _ _ z. absurd (omega (arith, ap numberOf (sym z ∙ asked)));
+        ordered = λ p _ z. subst (λ (y : Order). LentHost (headIn h) ms bs y vs (s .result) (headIn h′) (stored (s .records) ms) bs′ vs′)
+            (ap (orElse o) (sym asked ∙ z)) (f ms c x);
+      };
     }
 
     pub host-bad : (s : Served) (m : ℕ) → (count ≡ 128 → ⊥) → s ≡ servedBy (refuse m) → m ≡ 117 → HostServed h count ws bs kind vs s h bs vs
     host-bad s m n es y =
-        only-order s h vs
-        (λ ms c x. order-done (headIn h) ms o vs (refuse 117) (short-edit (headIn h) ms (λ z. n (sym c ∙ z)) o) s (headIn h) vs
+        only-order s h bs vs
+        (λ ms c x. order-done (headIn h) ms bs o vs (refuse 117) (short-edit (headIn h) ms bs (λ z. n (sym c ∙ z)) o) s (headIn h) vs
         (es ∙ ap (λ (x : ℕ). servedBy (refuse x)) y) (refused-head 117 (headIn h)) (told-none 117 0 vs (λ z. omega (arith, z))))
 
-    pub host-done : (s : Served) (h′ vs′ : List ℕ) (e : Edit) → count ≡ 128 → e ≡ hostEdit (tableOf (headIn h) (recordsOf ws)) o → s ≡ servedBy e
+    pub host-done : (s : Served) (h′ vs′ : List ℕ) (e : Edit) → count ≡ 128 → e ≡ boardHost (boardOf (headIn h) (recordsOf ws) bs) o → s ≡ servedBy e
         → headIn h′ ≡ headAfter e (headIn h) → vs′ ≡ toldIn (e .errno) (e .value) vs
         → HostServed h count ws bs kind vs s h′ bs vs′
     host-done s h′ vs′ e n d es eh ev =
-        only-order s h′ vs′
-        (λ ms c x. order-done (headIn h) ms o vs e (d ∙ ap (λ (zs : List Mapping). hostEdit (tableOf (headIn h) zs) o) (x .same (c ∙ n))) s
+        only-order s h′ bs vs′
+        (λ ms c x. order-done (headIn h) ms bs o vs e (d ∙ ap (λ (zs : List Mapping). boardHost (boardOf (headIn h) zs bs) o) (x .same (c ∙ n))) s
         (headIn h′) vs′ es eh ev)

@@ -6,7 +6,7 @@ use mathlib.Core.Option.{some}
 use lib.ListN.{getD}
 use Rattle.rules_table.specs.Words.{low}
 use Rattle.rules_calls.specs.declared.Order.{Order}
-use Rattle.rules_calls.specs.Orders.{bindOrder, attachOrder, detachOrder, reachOrder, chargeOrder}
+use Rattle.rules_calls.specs.Orders.{bindOrder, attachOrder, detachOrder, reachOrder, chargeOrder, nextOrder}
 use Rattle.rules_lent.specs.Entries.{isWrite, reservedIn, orderIn}
 
 module _ (kind : ℕ) (vs : List ℕ) (o : Order) where
@@ -29,3 +29,7 @@ module _ (kind : ℕ) (vs : List ℕ) (o : Order) where
   pub is-charge : kind ≡ 5 → o ≡ chargeOrder → orderIn kind vs ≡ some o
   unfolding orderIn
   is-charge k e = rw k (ap (λ (p : Order). some p) (sym e))
+
+  pub is-next : kind ≡ 6 → o ≡ nextOrder (low (getD vs 0 0)) (getD vs 1 0) → orderIn kind vs ≡ some o
+  unfolding orderIn
+  is-next k e = rw k (ap (λ (p : Order). some p) (sym e))

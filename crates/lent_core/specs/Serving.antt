@@ -1,4 +1,4 @@
--- What a call leaves that has the head as words and the words of the mapping records: for the records that these were loaded from, what the entry promises.
+-- What a call leaves that has the head as words, the words of the mapping records and the index: for the records that these were loaded from, what the entry promises.
 use Prim.Native.Nat.{ℕ}
 use mathlib.Core.Path.{_≡_, refl, sym, subst}
 use mathlib.Core.List.{List}
@@ -11,16 +11,16 @@ use Rattle.lent_records.specs.Loading.{Loaded}
 use Rattle.lent_records.specs.Records.{stored}
 use Rattle.lent_core.specs.declared.Served.{Served}
 
--- ---- what the entries promise, of the head as words; what stands beside the table stays
+-- ---- what the entries promise, of the head as words
 
 abbrev pub Called : List ℕ → List Mapping → List ℕ → ℕ → List ℕ → List ℕ → ℤ → List ℕ → List Mapping → List ℕ → List ℕ → List ℕ → Type 0
-Called h ms bs request cs rs r h′ ms′ bs′ cs′ rs′ = LentCall (headIn h) ms request cs rs r (headIn h′) ms′ cs′ rs′ × (bs′ ≡ bs)
+Called h ms bs request cs rs r h′ ms′ bs′ cs′ rs′ = LentCall (headIn h) ms bs request cs rs r (headIn h′) ms′ bs′ cs′ rs′
 
-abbrev pub Previewed : List ℕ → List Mapping → ℕ → List ℕ → List ℕ → ℤ → List ℕ → List ℕ → Type 0
-Previewed h ms request cs rs r cs′ rs′ = Preview (headIn h) ms request cs rs r (headIn h) ms cs′ rs′
+abbrev pub Previewed : List ℕ → List Mapping → List ℕ → ℕ → List ℕ → List ℕ → ℤ → List ℕ → List ℕ → Type 0
+Previewed h ms bs request cs rs r cs′ rs′ = Preview (headIn h) ms bs request cs rs r (headIn h) ms bs cs′ rs′
 
 abbrev pub HostCalled : List ℕ → List Mapping → List ℕ → ℕ → List ℕ → ℤ → List ℕ → List Mapping → List ℕ → List ℕ → Type 0
-HostCalled h ms bs kind vs r h′ ms′ bs′ vs′ = HostCall (headIn h) ms kind vs r (headIn h′) ms′ vs′ × (bs′ ≡ bs)
+HostCalled h ms bs kind vs r h′ ms′ bs′ vs′ = HostCall (headIn h) ms bs kind vs r (headIn h′) ms′ bs′ vs′
 
 -- ---- what is served: the same, for all records that the words were loaded from
 
@@ -29,7 +29,7 @@ pub record CallServed (h : List ℕ) (count : ℕ) (ws : List (List ℕ)) (bs : 
   pub served : (ms : List Mapping) → length ms ≡ count → Loaded ms ws → Called h ms bs request cs rs (s .result) h′ (stored (s .records) ms) bs′ cs′ rs′
 
 pub record PreviewServed (h : List ℕ) (count : ℕ) (ws : List (List ℕ)) (bs : List ℕ) (request : ℕ) (cs rs : List ℕ) (r : ℤ) (cs′ rs′ : List ℕ) : Type 0 where
-  pub served : (ms : List Mapping) → length ms ≡ count → Loaded ms ws → Previewed h ms request cs rs r cs′ rs′
+  pub served : (ms : List Mapping) → length ms ≡ count → Loaded ms ws → Previewed h ms bs request cs rs r cs′ rs′
 
 pub record HostServed (h : List ℕ) (count : ℕ) (ws : List (List ℕ)) (bs : List ℕ) (kind : ℕ) (vs : List ℕ) (s : Served) (h′ bs′ vs′ : List ℕ) : Type 0 where
   pub served : (ms : List Mapping) → length ms ≡ count → Loaded ms ws → HostCalled h ms bs kind vs (s .result) h′ (stored (s .records) ms) bs′ vs′
@@ -44,7 +44,7 @@ called h ms bs request cs rs s h′ bs′ cs′ rs′ ws ms′ l d e = subst (λ
     (d .served ms refl l)
 
 pub previewed : (h : List ℕ) (ms : List Mapping) (bs : List ℕ) (request : ℕ) (cs rs : List ℕ) (r : ℤ) (cs′ rs′ : List ℕ) (ws : List (List ℕ))
-    → Loaded ms ws → PreviewServed h (length ms) ws bs request cs rs r cs′ rs′ → Previewed h ms request cs rs r cs′ rs′
+    → Loaded ms ws → PreviewServed h (length ms) ws bs request cs rs r cs′ rs′ → Previewed h ms bs request cs rs r cs′ rs′
 previewed h ms bs request cs rs r cs′ rs′ ws l d = d .served ms refl l
 
 pub host-called : (h : List ℕ) (ms : List Mapping) (bs : List ℕ) (kind : ℕ) (vs : List ℕ) (s : Served) (h′ bs′ vs′ : List ℕ) (ws : List (List ℕ))

@@ -1,9 +1,9 @@
-// A call on the head as words and the words of the mapping records, which are lent. The head is written in place; what happens to the mapping records is handed
-// back. Another number of records than 128 is -117, and then nothing is written.
+// A call on the head as words, the words of the mapping records and the index, which are lent. Head and index are written in place; what happens to the mapping records is
+// handed back. Another number of records than 128 is -117, and then nothing is written.
 ghost use Prim.Native.Nat.{_≤_, _<_};
 ghost use mathlib.Core.Path.{_≡_};
 ghost use mathlib.Core.Option.{some};
-ghost use lib.ListN.{length};
+ghost use lib.ListN.{length, replicate};
 ghost use Rattle.rules_table.specs.Layout.{encoded};
 ghost use Rattle.rules_table.specs.Words.{headIn, low};
 ghost use Rattle.rules_calls.specs.Edits.{refuse};
@@ -140,17 +140,19 @@ pub fn call(
     if count != RECORDS {
         return refused(117);
     }
-    let e = iommufd::decide(h, ws, request, cmd, area);
+    let e = iommufd::decide(h, ws, beside, request, cmd, area);
     commit(h, e);
+    let c = e.change;
+    index_search::follow(ws, beside, c);
     answer(e)
 }
 
-// What the same command would answer; the table stays. The words are lent as `&mut` because two `&` of a signature have to live equally long.
-pub fn preview(
-    h: &[u64; 865],
+// What the same command would answer; table and index stay. The words are lent as `&mut` because two `&` of a signature have to live equally long.
+pub fn preview<'a>(
+    h: &'a [u64; 865],
     count: usize,
     ws: &mut [[u64; 5]; 128],
-    beside: &[u64],
+    beside: &'a [u64],
     request: u32,
     cmd: &mut [u8],
     area: &mut [u8],
@@ -160,23 +162,39 @@ pub fn preview(
     if count != RECORDS {
         return opening::signed_result(117);
     }
-    let e = iommufd::decide(h, ws, request, cmd, area);
+    let e = iommufd::decide(h, ws, beside, request, cmd, area);
     opening::signed_result(e.errno)
 }
 
 // ---- host calls
 
+// An index that lists nothing.
+fn wipe(ix: &mut [u64])
+    requires { ⌜ length (now ix) ≡ 128 ⌝ }
+    ensures { λ _. ⌜ now (ix .exit) ≡ replicate 128 0 ⌝ }
+{
+    let mut k: usize = 0;
+    while k < RECORDS {
+        ix[k] = 0;
+        k += 1;
+    }
+}
+
 // An empty table with a charge limit in pages: 22 above 2^36.
-fn fresh(h: &mut [u64; 865], count: usize, limit: u64) -> Served
-    ensures { λ s. ⌜ FreshServed (now (h .entry)) count limit s (now (h .exit)) ⌝ }
+fn fresh(h: &mut [u64; 865], count: usize, beside: &mut [u64], limit: u64) -> Served
+    ensures { λ s. ⌜ FreshServed (now (h .entry)) count (now (beside .entry)) limit s (now (h .exit)) (now (beside .exit)) ⌝ }
 {
     if count != RECORDS {
+        return refused(117);
+    }
+    if beside.len() != RECORDS {
         return refused(117);
     }
     if 0x10_0000_0000 < limit {
         return refused(22);
     }
     layout_objects::fresh(h, limit);
+    wipe(beside);
     let wipe = Records::Wipe;
     Served {
         result: 0,
@@ -203,9 +221,9 @@ fn reserved_in(words: &[u64]) -> Reserved
     }
 }
 
-// What a kind from 1 to 5 asks.
+// What a kind from 1 to 6 asks.
 fn order_in(kind: u32, words: &[u64]) -> Order
-    requires { ⌜ (10 ≤ length (now words)) × (1 ≤ kind) × (kind ≤ 5) ⌝ }
+    requires { ⌜ (10 ≤ length (now words)) × (1 ≤ kind) × (kind ≤ 6) ⌝ }
     ensures { λ o. ⌜ orderIn kind (now (words .entry)) ≡ some o ⌝ }
 {
     if kind == 1 {
@@ -220,7 +238,10 @@ fn order_in(kind: u32, words: &[u64]) -> Order
     if kind == 4 {
         return host_calls::reach_order(low(words[0]), words[1], words[2], words[3] != 0);
     }
-    host_calls::charge_order()
+    if kind == 5 {
+        return host_calls::charge_order();
+    }
+    host_calls::next_order(low(words[0]), words[1])
 }
 
 // What an edit tells stands in the first word.
@@ -247,16 +268,16 @@ pub fn host(
         return refused(14);
     }
     if kind == 0 {
-        return fresh(h, count, words[0]);
+        return fresh(h, count, beside, words[0]);
     }
-    if 5 < kind {
+    if 6 < kind {
         return refused(25);
     }
     let o = order_in(kind, words);
     if count != RECORDS {
         return refused(117);
     }
-    let e = host_calls::decide_host(h, ws, o);
+    let e = host_calls::decide_host(h, ws, beside, o);
     tell(words, e.errno, e.value);
     commit(h, e);
     answer(e)

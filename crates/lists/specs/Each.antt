@@ -4,6 +4,7 @@ use mathlib.Core.Path.{_≡_, refl}
 use mathlib.Core.Bool.{Bool, true, false}
 use mathlib.Core.List.{List, [], _∷_, map}
 use native.Mathlib.Nat.{le-of-suc-le-suc, not-suc-le-zero}
+use native.Mathlib.Omega.{arith}
 use lib.ListN.{length, getD, set, replicate}
 use Rattle.lists.specs.Tests.{and-left, and-right, and-both, or-not-left, or-not-right, or-neither}
 use Rattle.lists.specs.Search.{any, all}
@@ -29,6 +30,10 @@ module _ {A : Type 0} where
   Each-at P [] d i h e = absurd (not-suc-le-zero h)
   Each-at P (x ∷ xs) d zero h e = e .0
   Each-at P (x ∷ xs) d (suc i) h e = Each-at P xs d i (le-of-suc-le-suc h) (e .1)
+
+  pub Each-slots : (P : A → Type 0) (xs : List A) (d : A) → ((i : ℕ) → i < length xs → P (getD xs i d)) → Each P xs
+  Each-slots P [] d g = tt
+  Each-slots P (x ∷ xs) d g = (g 0 (omega arith), Each-slots P xs d (λ i h. g (suc i) (omega arith)))
 
   pub Each-set : (P : A → Type 0) (xs : List A) (i : ℕ) (a : A) → P a → Each P xs → Each P (set xs i a)
   Each-set P [] i a g h = tt

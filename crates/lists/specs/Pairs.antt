@@ -18,6 +18,10 @@ module _ {A : Type 0} where
   unfolding clashes
   clashes-nil p = refl
 
+  pub clashes-cons : (p : A → A → Bool) (x : A) (xs : List A) → clashes p (x ∷ xs) ≡ (any (p x) xs || clashes p xs)
+  unfolding clashes
+  clashes-cons p x xs = refl
+
   -- where none clash, no two places do
   pub clashes-false-at : (p : A → A → Bool) (xs : List A) (d : A) (i j : ℕ) → i < j → j < length xs → clashes p xs ≡ false → p (getD xs i d) (getD xs j d) ≡ false
   unfolding clashes

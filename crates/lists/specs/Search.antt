@@ -11,7 +11,7 @@ use native.Mathlib.Numerals.{add-one}
 use native.Mathlib.Omega.{arith}
 use lib.ListN.{length, getD, drop, drop-of-length-le}
 use lib.Seq.{drop-cons}
-use Rattle.lists.specs.Tests.{by-test, contrary, and-left, and-right, or-left, or-right, or-not-left, or-not-right, or-other}
+use Rattle.lists.specs.Tests.{by-test, contrary, and-left, and-right, and-both, or-left, or-right, or-not-left, or-not-right, or-other}
 
 module _ {A : Type 0} where
   -- what is left at i is the element at i and what is left at i + 1
@@ -41,6 +41,18 @@ module _ {A : Type 0} where
   unfolding any
   any-cong p q [] h = refl
   any-cong p q (x ∷ xs) h = rw (h x, any-cong p q xs h)
+
+  -- two tests asked at once
+  pub any-or : (p q : A → Bool) (xs : List A) → any (λ x. p x || q x) xs ≡ (any p xs || any q xs)
+  unfolding any
+  any-or p q [] = refl
+  any-or p q (x ∷ xs) = spread (p x) (q x) (any p xs) (any q xs) (any-or p q xs)
+    where
+      spread : {r : Bool} (a b c d : Bool) → r ≡ (c || d) → (a || b || r) ≡ (a || c || (b || d))
+      spread true b c d e = refl
+      spread false true true d e = refl
+      spread false true false d e = refl
+      spread false false c d e = e
 
   -- a narrower test passes less
   pub any-mono : (p q : A → Bool) (xs : List A) → ((x : A) → p x ≡ true → q x ≡ true) → any p xs ≡ true → any q xs ≡ true
@@ -119,6 +131,11 @@ module _ {A : Type 0} where
       spread true false true d e = refl
       spread true false false d e = refl
       spread false b c d e = refl
+
+  pub all-mono : (p q : A → Bool) (xs : List A) → ((x : A) → p x ≡ true → q x ≡ true) → all p xs ≡ true → all q xs ≡ true
+  unfolding all
+  all-mono p q [] h e = refl
+  all-mono p q (x ∷ xs) h e = and-both (q x) (all q xs) (h x (and-left (p x) (all p xs) e)) (all-mono p q xs h (and-right (p x) (all p xs) e))
 
   -- all pass where none fails
   pub all-not : (p : A → Bool) (xs : List A) → all (λ x. not (p x)) xs ≡ not (any p xs)

@@ -1,7 +1,7 @@
 -- What a store at one place, and a change of every element, do to each of the above. `set` and `map` are the kit's.
 use Prim.Native.Nat.{ℕ, zero, suc, _+_, _≤_, _<_}
 use mathlib.Core.Path.{_≡_, refl, sym, ap, _∙_}
-use mathlib.Core.Bool.{Bool, true, false, _||_, cond}
+use mathlib.Core.Bool.{Bool, true, false, _&&_, _||_, cond}
 use mathlib.Core.List.{List, [], _∷_, map}
 use native.Mathlib.Nat.{le-of-suc-le-suc, not-suc-le-zero}
 use native.Mathlib.Numerals.{add-one}
@@ -46,6 +46,11 @@ module _ {A B : Type 0} where
   unfolding any
   any-map p f [] = refl
   any-map p f (x ∷ xs) = ap (λ (b : Bool). p (f x) || b) (any-map p f xs)
+
+  pub all-map : (p : B → Bool) (f : A → B) (xs : List A) → all p (map f xs) ≡ all (λ x. p (f x)) xs
+  unfolding all
+  all-map p f [] = refl
+  all-map p f (x ∷ xs) = ap (λ (b : Bool). p (f x) && b) (all-map p f xs)
 
   pub sumOf-map : (w : B → ℕ) (f : A → B) (xs : List A) → sumOf w (map f xs) ≡ sumOf (λ x. w (f x)) xs
   unfolding sumOf

@@ -1,5 +1,3 @@
--- The mapping records as they are checked: each by itself, in pairs, and by their backings.
+-- The mapping records as they are checked: each by itself, and by their backings.
 pub mod Alone
-pub mod Pairing
 pub mod Charging
-pub mod Passed

@@ -1,24 +1,10 @@
 // Small tests of mapping records, for the check of a table and for the searches.
 ghost use mathlib.Core.Path.{_≡_};
 ghost use Prim.Native.Nat.{_≤_};
-ghost use Rattle.ranges.specs.Ranges.{range, lastOf};
+ghost use Rattle.ranges.specs.Ranges.{range};
 ghost use Rattle.rules_table.specs.Records.{touches};
 ghost use Rattle.rules_table.specs.Good.{differ};
 use rules_table::Mapping;
-
-// What one pass over the records tells: whether each keeps its own rules and the records of each backing agree. If so: whether the mappings of each space ascend in the order of the
-// records, so that no two share an address, and the pages of all backings.
-pub struct Pass {
-    pub good: bool,
-    pub ordered: bool,
-    pub charge: u64,
-}
-
-pub fn last_address(m: Mapping) -> u64
-    ensures { λ r. ⌜ (r ≡ lastOf (m .address) (m .length)) × (m .address ≤ r) ⌝ }
-{
-    ranges::last_of(m.address, m.length)
-}
 
 // Whether n is of that space and has an address from first to last. No sum is made.
 pub fn is_touched(space: u32, first: u64, last: u64, n: Mapping) -> bool

@@ -15,6 +15,7 @@ pub mod Ranges
 pub mod Bind
 pub mod Attach
 pub mod Reach
+pub mod Next
 pub mod Orders
 pub mod Call
 pub mod Named

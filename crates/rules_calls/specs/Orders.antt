@@ -1,5 +1,5 @@
--- What a host call asks, as one record, and the edit that it decides on any table (document 01, "Host calls, checks in order after 117"). Reach and charge change nothing: their
--- edit carries the number that they tell.
+-- What a host call asks, as one record, and the edit that it decides on any table (document 01, "Host calls, checks in order after 117"). Reach, charge and next change
+-- nothing: their edit carries the number that they tell.
 use Prim.Native.Nat.{ℕ, _+_, _^_}
 use mathlib.Core.Path.{_≡_, refl}
 use mathlib.Core.Bool.{Bool, false}
@@ -17,8 +17,9 @@ use Rattle.rules_calls.specs.Edits.{settle, refuse, tells}
 use Rattle.rules_calls.specs.Bind.{bindEdit, binds}
 use Rattle.rules_calls.specs.Attach.{attachEdit, detachEdit, attaches}
 use Rattle.rules_calls.specs.Reach.{reachOf, reaches}
+use Rattle.rules_calls.specs.Next.{nextEdit, nexts}
 use Rattle.rules_calls.specs.declared.Act.{Act}
-use Rattle.rules_calls.specs.declared.Act.the-variants.{Bind, Attach, Detach, Reach, Charge}
+use Rattle.rules_calls.specs.declared.Act.the-variants.{Bind, Attach, Detach, Reach, Charge, Next}
 use Rattle.rules_calls.specs.declared.Order.{Order}
 use Rattle.rules_calls.specs.declared.Reached.{Reached}
 use Rattle.rules_calls.specs.Results.{result}
@@ -42,6 +43,9 @@ reachOrder device a n write = record { act = Reach write; first = device; second
 abbrev pub chargeOrder : Order
 chargeOrder = orderFor Charge 0 0
 
+abbrev pub nextOrder : ℕ → ℕ → Order
+nextOrder space a = record { act = Next; first = space; second = 0; bitmap = 0; reserved = noReserved; address = a; length = 0 }
+
 -- what is decided over a good table
 abbrev pub actEdit : Table → Order → Act → Edit
 actEdit t o Bind = bindEdit (t .objects) (o .bitmap) (o .reserved)
@@ -49,6 +53,7 @@ actEdit t o Attach = attachEdit (t .objects) (t .mappings) (o .second) (o .first
 actEdit t o Detach = detachEdit (t .objects) (o .first)
 actEdit t o (Reach write) = reachOf (t .objects) (t .mappings) (o .first) (o .address) (o .length) write
 actEdit t o Charge = tells (charge (t .mappings))
+actEdit t o Next = nextEdit (t .objects) (t .mappings) (o .first) (o .address)
 
 unfoldable pub hostEdit : Table → Order → Edit
 hostEdit t o = settle (tableErrno t) (actEdit t o (o .act))
@@ -60,10 +65,10 @@ reachedBy e = record { result = result (e .errno); address = e .value }
 -- ---- examples: to unfold `orders` is to unfold all that it lists
 
 unfoldable orders : Table → Order → Edit
-unfolding hostEdit gates binds attaches reaches
+unfolding hostEdit gates binds attaches reaches nexts
 orders t o = hostEdit t o
 
--- on a fresh table the charge is 0, bind gives the id 1, and there is no device to attach, detach or reach from
+-- on a fresh table the charge is 0, bind gives the id 1, and there is no device to attach, detach or reach from and no space with a next mapping
 fresh-charge : hostEdit (freshTable 4) chargeOrder ≡ tells 0
 unfolding orders
 fresh-charge = refl
@@ -72,12 +77,12 @@ fresh-bind : hostEdit (freshTable 4) (bindOrder 0x1000 noReserved) .value ≡ 1
 unfolding orders
 fresh-bind = refl
 
-fresh-missing : map (hostEdit (freshTable 4)) (attachOrder 1 2 ∷ detachOrder 1 ∷ reachOrder 1 0 1 false ∷ []) ≡ (refuse 2 ∷ refuse 2 ∷ refuse 2 ∷ [])
+fresh-missing : map (hostEdit (freshTable 4)) (attachOrder 1 2 ∷ detachOrder 1 ∷ reachOrder 1 0 1 false ∷ nextOrder 1 0 ∷ []) ≡ (refuse 2 ∷ refuse 2 ∷ refuse 2 ∷ refuse 2 ∷ [])
 unfolding orders
 fresh-missing = refl
 
 -- a bad table: its limit is one too high
-bad-table : map (hostEdit (freshTable (2 ^ 36 + 1))) (chargeOrder ∷ attachOrder 1 2 ∷ []) ≡ (refuse 117 ∷ refuse 117 ∷ [])
+bad-table : map (hostEdit (freshTable (2 ^ 36 + 1))) (chargeOrder ∷ attachOrder 1 2 ∷ nextOrder 1 0 ∷ []) ≡ (refuse 117 ∷ refuse 117 ∷ refuse 117 ∷ [])
 unfolding orders
 bad-table = refl
 
@@ -91,3 +96,8 @@ one = record { limit = 4; objects = newSpace ∷ loose ∷ replicate 30 freeObje
 attach-named : (hostEdit one (attachOrder 2 1) .errno ∷ hostEdit one (attachOrder 1 2) .errno ∷ []) ≡ (0 ∷ 2 ∷ [])
 unfolding orders
 attach-named = refl
+
+-- space 1 has no mapping; 2 is no space
+next-named : map (λ (s : ℕ). hostEdit one (nextOrder s 0)) (1 ∷ 2 ∷ []) ≡ (tells 0 ∷ refuse 2 ∷ [])
+unfolding orders
+next-named = refl

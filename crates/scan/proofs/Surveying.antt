@@ -110,4 +110,4 @@ pub told-survey : (pages : List ℕ) (ms : List Mapping) (p : Pass) (marks : Lis
     → record { free = f; backing = b; charge = p .charge } ≡ surveyOf ms
 unfolding surveyOf freeBacking
 told-survey pages ms p marks f b t g ef eb =
-    rw (ef, eb, lowest-cong (unmarked marks) (λ b. not (any (backs b) ms)) 128 1 (λ b k l. rw (t .firsts g b k (omega arith)) (mark-none b ms)), t .passed .charge g)
+    rw (ef, eb, lowest-cong (unmarked marks) (λ b. not (any (backs b) ms)) 128 1 (λ b k l. rw (t .firsts g b k (omega arith)) (mark-none b ms)), t .charge g)

@@ -1,4 +1,2 @@
--- The passes over the mapping records by which MAP, COPY and UNMAP decide.
+-- What MAP and COPY ask of the mapping records for a new one.
 pub mod Surveyed
-pub mod Removed
-pub mod Sourced

@@ -1,6 +1,6 @@
 //! The map from device addresses to memory, for a kernel in Rust: a safe wrapper of the proved archive libiommufd.a. It needs no std and never allocates.
 //!
-//! A [`Table`] is 12 KB of plain memory. A kernel keeps it in a static behind its own lock; a call takes the table by `&mut`, or by `&` where it only reads, so that one call
+//! A [`Table`] is 13 KB of plain memory. A kernel keeps it in a static behind its own lock; a call takes the table by `&mut`, or by `&` where it only reads, so that one call
 //! runs at a time:
 //!
 //! ```
@@ -43,7 +43,7 @@ mod typed;
 
 pub use command::{FreeRanges, Place, Range, Rights, FIXED, MOST_ALLOWED, MOST_RANGES, READABLE, WRITEABLE};
 pub use errno::Errno;
-pub use mappings::{Mapping, Mappings};
+pub use mappings::{Mapping, Mappings, Walk};
 pub use table::{archive_version, Access, Table};
 
 /// The request numbers of the seven commands.

@@ -46,6 +46,13 @@ fn print_space(table: &Table, space: u32) {
     }
 }
 
+/// What an UNMAP is going to take, told before it is run.
+fn print_going(table: &Table, space: u32, range: Range) {
+    for m in table.mappings_in(space, range) {
+        println!("  to unpin: {:#x} bytes from memory {:#x}", m.length, m.memory);
+    }
+}
+
 fn print_free(table: &Table, what: &str, space: u32, room: usize) {
     let mut ranges = vec![Range::default(); room];
     let free = must(what, table.iova_ranges(space, &mut ranges));
@@ -90,6 +97,7 @@ fn cameras(t: &mut Table) -> u32 {
     print_free(t, "free ranges with room for one", left, 1);
     print_free(t, "free ranges with room for all", left, iommufd::MOST_RANGES);
 
+    print_going(t, left, Range::new(private, private + 0x3FFF));
     let removed = must("the private buffer goes", t.unmap(Unmap { space: left, address: private, length: 0x4000 }));
     println!("  {removed:#x} bytes removed");
     print_space(t, left);
@@ -110,6 +118,7 @@ fn last_address(t: &mut Table, space: u32, camera: u32) {
     show("a buffer past the last address", t.map(Map { length: 0x2000, ..page }));
     print_space(t, space);
     reach(t, "right camera writes the last byte", camera, u64::MAX, 1, Access::Write);
+    print_going(t, space, Range::new(0, u64::MAX));
     let removed = must("all mappings of the space go", t.unmap(Unmap::all(space)));
     println!("  {removed:#x} bytes removed");
     print_space(t, space);

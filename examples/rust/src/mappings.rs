@@ -1,7 +1,9 @@
-//! The mappings of a space, read off the records.
+//! The mappings of a space, read off the index and the records, and those of a range, asked for one after another.
 use crate::command::{Range, Rights};
 use crate::raw;
+use crate::table::Table;
 use core::iter::FusedIterator;
+use core::slice;
 
 /// A mapping of a space.
 #[derive(Clone, Copy, Debug, PartialEq, Eq)]
@@ -25,6 +27,11 @@ impl Mapping {
         Range::new(self.address, self.address.wrapping_add(self.length).wrapping_sub(1))
     }
 
+    /// That of a record by its number; none has the number 0.
+    pub(crate) fn numbered(records: &[raw::Mapping; raw::MAPPINGS], number: u64) -> Option<Mapping> {
+        record(records, number).map(Mapping::of)
+    }
+
     fn of(record: &raw::Mapping) -> Mapping {
         Mapping {
             address: record.address,
@@ -36,23 +43,27 @@ impl Mapping {
     }
 }
 
-/// The mappings of a space in ascending address. Each step reads all records and allocates nothing.
+/// The mappings of a space in ascending address, as the table's index has them side by side. Nothing is allocated, and of the other records hardly one is read.
 #[derive(Clone, Debug)]
 pub struct Mappings<'a> {
     records: &'a [raw::Mapping; raw::MAPPINGS],
-    space: u32,
-    /// The address of the mapping that was given last: the next one lies above it. Nothing does above the last address of all.
-    given: Option<u64>,
+    /// The numbers of the records that are still to come.
+    numbers: slice::Iter<'a, u64>,
+}
+
+/// The record that has a number of the index.
+fn record(records: &[raw::Mapping; raw::MAPPINGS], number: u64) -> Option<&raw::Mapping> {
+    records.get(usize::try_from(number).ok()?.checked_sub(1)?)
 }
 
 impl<'a> Mappings<'a> {
-    pub(crate) fn of(records: &'a [raw::Mapping; raw::MAPPINGS], space: u32) -> Mappings<'a> {
-        Mappings { records, space, given: None }
-    }
-
-    /// A released record is of no space, also where space 0 is asked for.
-    fn comes(&self, record: &raw::Mapping) -> bool {
-        record.space != 0 && record.space == self.space && self.given.is_none_or(|address| record.address > address)
+    pub(crate) fn of(records: &'a [raw::Mapping; raw::MAPPINGS], index: &'a [u64; raw::INDEX_WORDS], space: u32) -> Mappings<'a> {
+        let space_of = |number: &u64| record(records, *number).map_or(0, |record| record.space);
+        // The index is ordered by space, and the zeros behind it are of none.
+        let listed = &index[..index.partition_point(|number| *number != 0)];
+        let from = &listed[listed.partition_point(|number| space_of(number) < space)..];
+        let own = &from[..from.partition_point(|number| space_of(number) == space)];
+        Mappings { records, numbers: own.iter() }
     }
 }
 
@@ -60,14 +71,43 @@ impl Iterator for Mappings<'_> {
     type Item = Mapping;
 
     fn next(&mut self) -> Option<Mapping> {
-        let next = self.records.iter().filter(|record| self.comes(record)).min_by_key(|record| record.address)?;
-        self.given = Some(next.address);
-        Some(Mapping::of(next))
+        self.numbers.next().and_then(|number| Mapping::numbered(self.records, *number))
     }
 
     fn size_hint(&self) -> (usize, Option<usize>) {
-        (0, Some(raw::MAPPINGS))
+        self.numbers.size_hint()
     }
 }
 
+impl ExactSizeIterator for Mappings<'_> {}
 impl FusedIterator for Mappings<'_> {}
+
+/// The mappings of a space that share an address with a range, in ascending address: the walk that the C header shows beside `iommufd_next`.
+#[derive(Clone, Debug)]
+pub struct Walk<'a> {
+    table: &'a Table,
+    space: u32,
+    /// Where to go on; nothing is left behind the last address of all, and behind the range.
+    from: Option<u64>,
+    last: u64,
+}
+
+impl<'a> Walk<'a> {
+    pub(crate) fn over(table: &'a Table, space: u32, range: Range) -> Walk<'a> {
+        Walk { table, space, from: (range.start <= range.last).then_some(range.start), last: range.last }
+    }
+}
+
+impl Iterator for Walk<'_> {
+    type Item = Mapping;
+
+    fn next(&mut self) -> Option<Mapping> {
+        // Only an id that is no space is refused.
+        let found = self.table.next(self.space, self.from?).ok().flatten();
+        let found = found.filter(|mapping| mapping.address <= self.last);
+        self.from = found.and_then(|mapping| mapping.range().last.checked_add(1));
+        found
+    }
+}
+
+impl FusedIterator for Walk<'_> {}

@@ -2,12 +2,14 @@
 use core::mem::{align_of, size_of};
 
 /// The version of the header that is written down here.
-pub const VERSION: u32 = 2;
+pub const VERSION: u32 = 3;
 
 /// The object records of a table.
 pub const OBJECTS: usize = 32;
 /// The mapping records of a table.
 pub const MAPPINGS: usize = 128;
+/// The words of a table's index: the numbers of the mapping records in use, n for record n - 1, by space and then by address, and zeros behind them.
+pub const INDEX_WORDS: usize = 128;
 
 /// A mapping's right to write.
 pub const RIGHT_WRITE: u32 = 1;
@@ -114,10 +116,12 @@ impl Host {
     pub const ATTACH: u32 = 2;
     /// A device from its space.
     pub const DETACH: u32 = 3;
-    /// The memory that a device gets to. The entry writes neither head nor records.
+    /// The memory that a device gets to. The entry writes neither head nor records nor index.
     pub const REACH: u32 = 4;
-    /// The pages that are charged. The entry writes neither head nor records.
+    /// The pages that are charged. The entry writes neither head nor records nor index.
     pub const CHARGE: u32 = 5;
+    /// The mapping of a space from an address on. The entry writes neither head nor records nor index.
+    pub const NEXT: u32 = 6;
 
     #[inline]
     fn of(kind: u32, numbers: &[u64]) -> Host {
@@ -164,6 +168,12 @@ impl Host {
     pub fn charge() -> Host {
         Host::of(Host::CHARGE, &[])
     }
+
+    /// C's `iommufd_next`.
+    #[inline]
+    pub fn next(space: u32, address: u64) -> Host {
+        Host::of(Host::NEXT, &[space.into(), address])
+    }
 }
 
 /// The reserved ranges of a device to bind.
@@ -198,7 +208,7 @@ const _: () = assert!(size_of::<Mapping>() == 40);
 const _: () = assert!(size_of::<Reserved>() == 72);
 const _: () = assert!(size_of::<Number>() == 16);
 
-#[allow(missing_docs)] // include/iommufd.h says what each entry does
+#[allow(missing_docs)] // include/iommufd.h says what each entry does; `beside` is the index
 extern "C" {
     pub static iommufd_archive_version: u32;
     pub fn iommufd_call(
@@ -236,6 +246,3 @@ extern "C" {
         words_count: usize,
     ) -> i32;
 }
-
-/// The address of what stands beside a table: nothing today, so it is one that an empty slice may have, aligned and not null.
-pub const BESIDE: *mut u64 = core::ptr::NonNull::dangling().as_ptr();

@@ -87,6 +87,7 @@ fn flags_and_counts() {
         ("RIGHT_READ", raw::RIGHT_READ.into()),
         ("OBJECTS", raw::OBJECTS as u64),
         ("MAPPINGS", raw::MAPPINGS as u64),
+        ("INDEX_WORDS", raw::INDEX_WORDS as u64),
         ("HOST_WORDS", raw::HOST_WORDS as u64),
     ]);
     for (name, number) in ours {
@@ -104,6 +105,7 @@ fn kinds() {
         ("DETACH", Host::DETACH.into()),
         ("REACH", Host::REACH.into()),
         ("CHARGE", Host::CHARGE.into()),
+        ("NEXT", Host::NEXT.into()),
     ]);
     let header = header();
     let of = |line: &str| -> Option<(String, u64)> {
@@ -123,6 +125,7 @@ fn words() {
     assert_eq!(Host::detach(1).words, [1, 0, 0, 0, 0, 0, 0, 0, 0, 0]);
     assert_eq!(Host::reach(1, 2, 3, 4).words, [1, 2, 3, 4, 0, 0, 0, 0, 0, 0]);
     assert_eq!(Host::charge().words, [0; 10]);
+    assert_eq!(Host::next(1, 2).words, [1, 2, 0, 0, 0, 0, 0, 0, 0, 0]);
 }
 
 /// The header, the wrapper and the archive are of one version.

@@ -63,6 +63,69 @@ fn mappings_ascend_whatever_their_records() {
     assert_eq!(addresses(&t, 1), [0, 30, 40, 50, 1 << 63, u64::MAX]);
     assert_eq!(addresses(&t, 2), [20]);
     assert_eq!([addresses(&t, 0), addresses(&t, 3), addresses(&t, u32::MAX)], [vec![], vec![], vec![]]);
+    assert_eq!([t.mappings_of(1).len(), t.mappings_of(2).len(), t.mappings_of(3).len()], [6, 1, 0]);
+}
+
+/// A table has its index with it: a copy is a table of its own.
+#[test]
+fn a_clone_goes_its_own_way() {
+    let mut t = Table::new(1 << 36).unwrap();
+    assert_eq!([t.alloc_space(), t.alloc_space()], [Ok(1), Ok(2)]);
+    for (space, address) in [(2, 9), (1, 7), (2, 5), (1, 3)] {
+        t.map(map(space, address, 1)).unwrap();
+    }
+    let mut other = t.clone();
+    assert_eq!(other.unmap(Unmap::all(1)), Ok(2));
+    assert_eq!(other.map(map(2, 7, 1)), Ok(7));
+    assert_eq!((addresses(&other, 1), addresses(&other, 2)), (vec![], vec![5, 7, 9]));
+    assert_eq!((addresses(&t, 1), addresses(&t, 2)), (vec![3, 7], vec![5, 9]));
+    assert_eq!(t.charge(), Ok(4));
+}
+
+#[test]
+fn the_next_mapping() {
+    let mut t = Table::new(1 << 36).unwrap();
+    assert_eq!([t.alloc_space(), t.alloc_space(), t.bind(1, &[])], [Ok(1), Ok(2), Ok(3)]);
+    let next = |t: &Table, space, address| t.next(space, address).map(|found| found.map(|m| m.address));
+    assert_eq!(next(&t, 1, 0), Ok(None));
+    for (space, address) in [(1, u64::MAX - 3), (1, 0x20), (2, 0x18), (1, 0x10)] {
+        t.map(map(space, address, 4)).unwrap();
+    }
+    let before = t.clone();
+    let told = [(0, 0x10), (0x10, 0x10), (0x13, 0x10), (0x14, 0x20), (0x23, 0x20), (0x24, u64::MAX - 3), (u64::MAX, u64::MAX - 3)];
+    for (address, found) in told {
+        assert_eq!(next(&t, 1, address), Ok(Some(found)));
+    }
+    assert_eq!([0, 0x1B, 0x1C, u64::MAX].map(|address| next(&t, 2, address)), [Ok(Some(0x18)), Ok(Some(0x18)), Ok(None), Ok(None)]);
+    assert_eq!([0, 3, 4, 33, u32::MAX].map(|space| next(&t, space, 0)), [Err(Errno::NoEnt); 5]);
+    assert_eq!(t.next(1, 0x11), Ok(t.mappings_of(1).next()));
+    assert_eq!(t, before);
+}
+
+/// What the walk tells beforehand is what an UNMAP takes, and nothing else.
+#[test]
+fn the_mappings_of_a_range() {
+    let mut t = Table::new(1 << 36).unwrap();
+    assert_eq!([t.alloc_space(), t.alloc_space()], [Ok(1), Ok(2)]);
+    for (space, address) in [(1, u64::MAX - 3), (1, 4), (1, 0), (2, 8), (1, 12)] {
+        t.map(map(space, address, 4)).unwrap();
+    }
+    let walked = |t: &Table, start, last| t.mappings_in(1, Range::new(start, last)).map(|m| m.address).collect::<Vec<u64>>();
+    let whole = [(0, 3, vec![0]), (0, 11, vec![0, 4]), (4, 15, vec![4, 12]), (12, u64::MAX, vec![12, u64::MAX - 3]), (0, u64::MAX - 4, vec![0, 4, 12])];
+    for (start, last, expected) in whole {
+        assert_eq!(walked(&t, start, last), expected);
+        let mut after = t.clone();
+        assert_eq!(after.unmap(Unmap { space: 1, address: start, length: last - start + 1 }), Ok(4 * expected.len() as u64));
+        let stay = addresses(&t, 1).into_iter().filter(|address| !expected.contains(address)).collect::<Vec<u64>>();
+        assert_eq!(addresses(&after, 1), stay);
+    }
+    assert_eq!(walked(&t, 0, u64::MAX), addresses(&t, 1));
+    // cut at either end, and none
+    assert_eq!([walked(&t, 3, 4), walked(&t, 15, 15), walked(&t, u64::MAX, u64::MAX)], [vec![0, 4], vec![12], vec![u64::MAX - 3]]);
+    assert_eq!([walked(&t, 8, 11), walked(&t, 16, u64::MAX - 4), walked(&t, 2, 1)], [const { vec![] }; 3]);
+    assert_eq!([0, 3, 33].map(|space| t.mappings_in(space, Range::new(0, u64::MAX)).count()), [0; 3]);
+    let mut walk = t.mappings_in(2, Range::new(0, u64::MAX));
+    assert_eq!((walk.next().map(|m| m.range()), walk.next(), walk.next()), (Some(Range::new(8, 11)), None, None));
 }
 
 /// After a mapping at the last address nothing comes, however often it is asked.

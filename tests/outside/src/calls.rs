@@ -1,17 +1,18 @@
 //! A call as data, and the table that it is made on: what the archive, the model and the plain program all take.
 use iommufd::raw::{Head, Mapping, Number, Reserved};
 
-/// A table in the caller's memory. The number of mapping records that are lent may be any; a good table has 128.
+/// A table in the caller's memory. The numbers of mapping records and of words of the index that are lent may be any; a good table has 128 of each.
 #[derive(Clone, Debug, PartialEq, Eq)]
 pub struct Lent {
     pub head: Box<Head>,
     pub mappings: Vec<Mapping>,
+    pub index: Vec<u64>,
 }
 
 impl Lent {
     /// Memory of the right size in which everything is 0.
     pub fn zeroed() -> Lent {
-        Lent { head: Box::default(), mappings: vec![Mapping::default(); 128] }
+        Lent { head: Box::default(), mappings: vec![Mapping::default(); 128], index: vec![0; 128] }
     }
 }
 
@@ -28,6 +29,8 @@ pub enum Call {
     /// `write` of 0 reads, any other writes.
     Reach { device: u32, address: u64, length: u64, write: u32 },
     Charge,
+    /// The number of the record is the value.
+    Next { space: u32, address: u64 },
 }
 
 impl Call {

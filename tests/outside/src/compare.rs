@@ -119,7 +119,7 @@ impl Pair {
         if result < 0 && result != EMSGSIZE && !(table_stays && given.call == *given.asked) {
             return Some("a refusal wrote something");
         }
-        let reads = matches!(given.asked, Call::Preview { .. } | Call::Reach { .. } | Call::Charge);
+        let reads = matches!(given.asked, Call::Preview { .. } | Call::Reach { .. } | Call::Charge | Call::Next { .. });
         if (reads || result == EMSGSIZE) && !table_stays {
             return Some("the table changed, though this call only reads it");
         }
@@ -165,9 +165,9 @@ fn bytes_in(what: &str, expected: &[u8], given: &[u8]) -> Vec<String> {
 }
 
 fn differing_fields(model: &Lent, other: &Lent) -> Vec<String> {
-    let most = model.mappings.len().max(other.mappings.len());
+    let (records, words) = (model.mappings.len().max(other.mappings.len()), model.index.len().max(other.index.len()));
     let told = |value: Option<u64>| value.map_or("not there".to_string(), |value| format!("{value:#x}"));
-    shortened(places(most).filter_map(|place| {
+    shortened(places(records, words).filter_map(|place| {
         let (expected, given) = (place.get(model), place.get(other));
         (expected != given).then(|| format!("{}: model {}, system {}", place.name(), told(expected), told(given)))
     }))

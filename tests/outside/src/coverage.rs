@@ -21,9 +21,9 @@ fn of<K: Ord>(counts: &BTreeMap<K, u64>, key: &K) -> u64 {
     counts.get(key).copied().unwrap_or(0)
 }
 
-/// Host calls, fresh and charge have no preview.
+/// Host calls have no preview, nor have fresh, charge and next.
 fn has_preview(check: &Check) -> bool {
-    !["fresh", "bind", "attach", "detach", "reach", "charge"].contains(&check.call)
+    !["fresh", "bind", "attach", "detach", "reach", "charge", "next"].contains(&check.call)
 }
 
 impl Coverage {

@@ -9,7 +9,7 @@ use crate::steps::{Damage, Step};
 use crate::wire::{ALLOC, ALLOW, COPY, DESTROY, MAP, RANGES, UNMAP};
 use iommufd::raw::Reserved;
 
-/// How often each kind of call is made: the commands in this order, then bind, attach, detach, reach, charge, fresh.
+/// How often each kind of call is made: the commands in this order, then bind, attach, detach, reach, charge, next, fresh.
 const COMMANDS: [u32; 7] = [MAP, COPY, UNMAP, ALLOW, RANGES, ALLOC, DESTROY];
 const KIND_ALLOC: usize = 5;
 const KIND_BIND: usize = 7;
@@ -17,8 +17,9 @@ const KIND_ATTACH: usize = 8;
 const KIND_DETACH: usize = 9;
 const KIND_REACH: usize = 10;
 const KIND_CHARGE: usize = 11;
-const KIND_FRESH: usize = 12;
-type Weights = [usize; 13];
+const KIND_NEXT: usize = 12;
+const KIND_FRESH: usize = 13;
+type Weights = [usize; 14];
 
 #[derive(Clone, Copy, Debug)]
 struct Style {
@@ -35,21 +36,21 @@ const NEVER: usize = usize::MAX;
 /// How often a style is chosen, and the style.
 const STYLES: [(usize, Style); 8] = [
     // everything meets
-    (6, Style { weights: [60, 30, 24, 12, 12, 6, 4, 8, 12, 6, 24, 4, 1], mood: CALM, damage: 60, steps: (20, 160) }),
+    (6, Style { weights: [60, 30, 24, 12, 12, 6, 4, 8, 12, 6, 24, 4, 12, 1], mood: CALM, damage: 60, steps: (20, 160) }),
     // many objects, up to a full table of them
-    (2, Style { weights: [8, 4, 2, 4, 8, 40, 8, 40, 24, 8, 4, 1, 0], mood: Mood { field: 8, wire: 40 }, damage: 90, steps: (60, 200) }),
+    (2, Style { weights: [8, 4, 2, 4, 8, 40, 8, 40, 24, 8, 4, 1, 2, 0], mood: Mood { field: 8, wire: 40 }, damage: 90, steps: (60, 200) }),
     // all mapping records taken
-    (2, Style { weights: [120, 40, 3, 1, 2, 4, 1, 1, 1, 1, 6, 1, 0], mood: Mood { field: 14, wire: 60 }, damage: 80, steps: (260, 480) }),
+    (2, Style { weights: [120, 40, 3, 1, 2, 4, 1, 1, 1, 1, 6, 1, 6, 0], mood: Mood { field: 14, wire: 60 }, damage: 80, steps: (260, 480) }),
     // allow lists and what lands in them
-    (3, Style { weights: [50, 6, 8, 40, 4, 3, 2, 6, 10, 6, 2, 1, 0], mood: CALM, damage: 60, steps: (30, 160) }),
+    (3, Style { weights: [50, 6, 8, 40, 4, 3, 2, 6, 10, 6, 2, 1, 3, 0], mood: CALM, damage: 60, steps: (30, 160) }),
     // devices that come and go with what they reserve
-    (3, Style { weights: [20, 6, 6, 10, 40, 4, 3, 30, 40, 20, 8, 1, 0], mood: CALM, damage: 60, steps: (30, 160) }),
+    (3, Style { weights: [20, 6, 6, 10, 40, 4, 3, 30, 40, 20, 8, 1, 4, 0], mood: CALM, damage: 60, steps: (30, 160) }),
     // shared backings
-    (2, Style { weights: [24, 60, 20, 1, 1, 6, 6, 2, 4, 2, 10, 8, 0], mood: CALM, damage: 60, steps: (30, 160) }),
+    (2, Style { weights: [24, 60, 20, 1, 1, 6, 6, 2, 4, 2, 10, 8, 8, 0], mood: CALM, damage: 60, steps: (30, 160) }),
     // damaged bytes of commands
-    (2, Style { weights: [20, 10, 10, 10, 10, 10, 6, 4, 4, 2, 2, 1, 0], mood: Mood { field: 4, wire: 2 }, damage: NEVER, steps: (20, 80) }),
+    (2, Style { weights: [20, 10, 10, 10, 10, 10, 6, 4, 4, 2, 2, 1, 1, 0], mood: Mood { field: 4, wire: 2 }, damage: NEVER, steps: (20, 80) }),
     // damaged tables
-    (6, Style { weights: [50, 30, 8, 16, 8, 8, 2, 12, 20, 4, 8, 4, 1], mood: Mood { field: 9, wire: 30 }, damage: 4, steps: (40, 200) }),
+    (6, Style { weights: [50, 30, 8, 16, 8, 8, 2, 12, 20, 4, 8, 4, 8, 1], mood: Mood { field: 9, wire: 30 }, damage: 4, steps: (40, 200) }),
 ];
 
 /// Low and high ends, single bytes, pages and huge pieces.
@@ -178,6 +179,7 @@ impl Generator {
             KIND_DETACH => aim.detach(),
             KIND_REACH => aim.reach(),
             KIND_CHARGE => Call::Charge,
+            KIND_NEXT => aim.next_mapping(),
             _ => aim.command(COMMANDS[kind]),
         }
     }
@@ -185,26 +187,65 @@ impl Generator {
 
 // ---- damages
 impl Generator {
+    /// Of the index alone, or of the rest: then the index most often agrees again, so that nothing but the change itself can make the table bad.
     fn damage(&mut self, lent: &Lent) -> Vec<Damage> {
-        let mut changes = vec![self.one_damage(lent)];
+        let of_index = self.dice.chance(4);
+        let mut changes = vec![self.one_damage(lent, of_index)];
         while self.dice.chance(5) {
-            changes.push(self.one_damage(lent));
+            changes.push(self.one_damage(lent, of_index));
+        }
+        if !of_index && !self.dice.chance(4) {
+            changes.push(Damage::Agree);
         }
         changes
     }
 
-    fn one_damage(&mut self, lent: &Lent) -> Damage {
+    fn one_damage(&mut self, lent: &Lent, of_index: bool) -> Damage {
         let sight = Sight::of(lent);
+        if of_index {
+            return self.change_index(&sight);
+        }
         let (one, other, any) = (self.record(&sight), self.record(&sight), self.dice.below(128));
-        match self.dice.weighted(&[12, 10, 2, 3, 2, 1]) {
+        match self.dice.weighted(&[12, 10, 2, 3, 2, 1, 1]) {
             0 if !sight.used.is_empty() => self.change_record(&sight, one),
             1 => self.change_object(&sight),
             2 => self.change_limit(&sight),
             3 => Damage::Alike { from: one, to: self.dice.one_of(&[other, any]) },
             4 => Damage::Swap(one, any),
             5 => Damage::Lend(self.dice.one_of(&[0, 1, 64, 127, 129, 130, 256])),
+            6 => Damage::Release(one),
             _ => self.change_free(),
         }
+    }
+
+    /// A change of the index: the order of what it lists, one number, or how many words are lent.
+    fn change_index(&mut self, sight: &Sight) -> Damage {
+        let listed = sight.lent.index.iter().take_while(|word| **word != 0).count();
+        let (one, other) = (self.dice.below(listed), self.dice.below(listed));
+        match self.dice.weighted(&[4, 3, 2, 9, 2]) {
+            0 if listed > 1 => Damage::SwapWords(one, self.dice.one_of(&[other, (one + 1) % listed])),
+            1 if listed > 0 => {
+                // also behind the zeros, the last number most often: what is listed before them is then in order
+                let from = self.dice.one_of(&[one, listed - 1]);
+                Damage::MoveWord { from, to: self.dice.one_of(&[other, other, listed, listed + 1, 127]).min(127) }
+            }
+            2 if listed > 0 => Damage::DropWord(one),
+            3 => self.change_word(sight, listed),
+            _ => Damage::LendWords(self.dice.one_of(&[0, 0, 1, 64, 127, 127, 129, 129, 130, 256])),
+        }
+    }
+
+    /// A word that is listed, the first that is not, or one behind it; with a number that is listed already, of a released record, just none, or one but for high bits.
+    fn change_word(&mut self, sight: &Sight, listed: usize) -> Damage {
+        let one = self.dice.below(listed);
+        let at = self.dice.one_of(&[one, one, listed, listed, listed + 1, 127]).min(127);
+        let any = self.dice.roll();
+        let word = |at: usize| sight.lent.index.get(at).copied().unwrap_or(0);
+        let (own, theirs) = (word(at), word(self.dice.below(listed)));
+        let numbers = [0, theirs, theirs, 1 + any % 128, 1 + any % 128, own.wrapping_add(1), own.wrapping_sub(1), 128, 129, 256];
+        let high = [own | 1 << 32, theirs.wrapping_add(256), theirs | 1 << 63, u64::MAX, any];
+        let value = if self.dice.chance(3) { self.dice.one_of(&high) } else { self.dice.one_of(&numbers) };
+        Damage::Set(Place::Index { at }, value)
     }
 
     fn record(&mut self, sight: &Sight) -> usize {

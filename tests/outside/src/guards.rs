@@ -1,6 +1,6 @@
 //! The archive on memory with guard bytes around every part that is lent, the command and the area at any address, odd ones too. What a host call does not read of its words
 //! is left to chance.
-use crate::boundary;
+use crate::boundary::{self, Parts};
 use crate::calls::{Call, Lent};
 use crate::dice::Dice;
 use iommufd::raw::{Head, Host, Mapping, Number, HOST_WORDS};
@@ -62,6 +62,29 @@ fn fenced_records(records: &[Mapping], fence: Mapping) -> Vec<Mapping> {
     [&fence, records, &fence].concat()
 }
 
+/// Words in the middle of others.
+struct FencedWords {
+    memory: Vec<u64>,
+    len: usize,
+    pattern: u64,
+}
+
+impl FencedWords {
+    fn around(words: &[u64], pattern: u64) -> FencedWords {
+        let fence = [pattern; FENCE];
+        FencedWords { memory: [&fence, words, &fence].concat(), len: words.len(), pattern }
+    }
+
+    fn lent(&mut self) -> &mut [u64] {
+        &mut self.memory[FENCE..FENCE + self.len]
+    }
+
+    fn intact(&self) -> bool {
+        let (before, rest) = self.memory.split_at(FENCE);
+        before == [self.pattern; FENCE] && rest[self.len..] == [self.pattern; FENCE]
+    }
+}
+
 /// The bits of each word that a kind of host call reads.
 fn bits_read(kind: u32) -> [u64; HOST_WORDS] {
     const ALL: u64 = u64::MAX;
@@ -72,36 +95,35 @@ fn bits_read(kind: u32) -> [u64; HOST_WORDS] {
         Host::ATTACH => [LOW, LOW, 0, 0, 0, 0, 0, 0, 0, 0],
         Host::DETACH => [LOW, 0, 0, 0, 0, 0, 0, 0, 0, 0],
         Host::REACH => [LOW, ALL, ALL, ALL, 0, 0, 0, 0, 0, 0],
+        Host::NEXT => [LOW, ALL, 0, 0, 0, 0, 0, 0, 0, 0],
         _ => [0; HOST_WORDS],
     }
 }
 
 /// The words of a host call in the middle of others, at times with some more behind them.
-struct FencedWords {
-    memory: Vec<u64>,
+struct FencedHost {
+    words: FencedWords,
     given: Vec<u64>,
-    pattern: u64,
 }
 
-impl FencedWords {
-    fn around(host: &Host, dice: &mut Dice) -> FencedWords {
+impl FencedHost {
+    fn around(host: &Host, dice: &mut Dice) -> FencedHost {
         let (pattern, more) = (dice.roll(), dice.below(3));
         let read = host.words.iter().zip(bits_read(host.kind));
         let mut given: Vec<u64> = read.map(|(word, bits)| (word & bits) | (dice.roll() & !bits)).collect();
         given.extend((0..more).map(|_| dice.roll()));
-        let fence = [pattern; FENCE];
-        FencedWords { memory: [&fence[..], &given, &fence].concat(), given, pattern }
+        FencedHost { words: FencedWords::around(&given, pattern), given }
     }
 
     fn lent(&mut self) -> &mut [u64] {
-        &mut self.memory[FENCE..FENCE + self.given.len()]
+        self.words.lent()
     }
 
     /// Only the first word may be another, where the call tells something.
-    fn intact(&self, tells: bool) -> bool {
-        let (before, rest) = self.memory.split_at(FENCE);
-        let (words, after) = rest.split_at(self.given.len());
-        before == [self.pattern; FENCE] && after == [self.pattern; FENCE] && words[1..] == self.given[1..] && (tells || words[0] == self.given[0])
+    fn intact(&mut self, tells: bool) -> bool {
+        let words = self.words.lent();
+        let stay = words[1..] == self.given[1..] && (tells || words[0] == self.given[0]);
+        stay && self.words.intact()
     }
 }
 
@@ -122,11 +144,13 @@ pub fn run(dice: &mut Dice, lent: &mut Lent, call: &mut Call) -> Result<Number, 
     let mut memory = fenced_records(&lent.mappings, fence);
     let (before, rest) = memory.split_at_mut(FENCE_RECORDS);
     let (records, after) = rest.split_at_mut(lent.mappings.len());
+    let mut index = FencedWords::around(&lent.index, pattern);
 
     let mut words_intact = true;
-    let number = boundary::lend_with(&mut head.head, records, call, bytes.lent(), area.lent(), |head, records, host| {
-        let mut words = FencedWords::around(host, dice);
-        let result = boundary::enter(head, records, host.kind, words.lent());
+    let mut parts = Parts { head: &mut head.head, mappings: records, index: index.lent() };
+    let number = boundary::lend(&mut parts, call, bytes.lent(), area.lent(), |parts, host| {
+        let mut words = FencedHost::around(host, dice);
+        let result = boundary::enter(parts, host.kind, words.lent());
         words_intact = words.intact(result == 0 && host.kind != Host::FRESH);
         host.words[0] = words.lent()[0];
         result
@@ -134,10 +158,12 @@ pub fn run(dice: &mut Dice, lent: &mut Lent, call: &mut Call) -> Result<Number, 
 
     *lent.head = head.head.clone();
     lent.mappings.copy_from_slice(records);
+    lent.index.copy_from_slice(index.lent());
     bytes_back(call, bytes.lent(), area.lent());
     let intact = [
         (head.intact(pattern), "memory beside the head was written"),
         (before.iter().chain(after.iter()).all(|record| *record == fence), "memory beside the mapping records was written"),
+        (index.intact(), "memory beside the index was written"),
         (bytes.intact(), "memory beside the command was written"),
         (area.intact(), "memory beside the range area was written"),
         (words_intact, "words of a host call, or memory beside them, were written that tell nothing"),
@@ -169,14 +195,28 @@ mod tests {
     fn a_word_that_tells_nothing_is_noticed() {
         let (mut dice, host) = (Dice::new(4), Host::attach(1, 2));
         for _ in 0..9 {
-            let mut fenced = FencedWords::around(&host, &mut dice);
+            let mut fenced = FencedHost::around(&host, &mut dice);
             assert_eq!([fenced.lent()[0] as u32, fenced.lent()[1] as u32], [1, 2]);
             assert!(fenced.intact(false));
             fenced.lent()[0] ^= 1;
             assert!(fenced.intact(true) && !fenced.intact(false));
             for at in [FENCE - 1, FENCE + 1, FENCE + fenced.given.len() - 1, FENCE + fenced.given.len()] {
-                fenced.memory[at] ^= 1;
+                fenced.words.memory[at] ^= 1;
                 assert!(!fenced.intact(true));
+                fenced.words.memory[at] ^= 1;
+            }
+        }
+    }
+
+    #[test]
+    fn a_word_beside_the_index_is_noticed() {
+        for len in [0, 1, 127, 128] {
+            let mut fenced = FencedWords::around(&vec![7; len], 5);
+            fenced.lent().fill(9);
+            assert!(fenced.intact());
+            for at in [FENCE - 1, FENCE + len] {
+                fenced.memory[at] ^= 1;
+                assert!(!fenced.intact());
                 fenced.memory[at] ^= 1;
             }
         }

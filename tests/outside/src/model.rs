@@ -1,5 +1,6 @@
-//! Document 01 as a program to be read beside it: every call takes the lent table into plain data (`table`), asks the paper's checks one after the other
-//! (`commands`, `host`), and puts the table back where it was accepted. Written from the paper alone; nothing here is fast or clever on purpose.
+//! Document 01, and of document 02 the index that L9 keeps, as a program to be read beside them: every call takes the lent table into plain data (`table`), asks the
+//! paper's checks one after the other (`commands`, `host`), and puts the table back where it was accepted. Written from the papers alone; nothing here is fast or clever
+//! on purpose.
 mod checks;
 mod commands;
 mod host;
@@ -13,7 +14,7 @@ use iommufd::raw::Number;
 use table::Table;
 
 pub use checks::{checks, Check};
-pub use table::{bad, bad_rules};
+pub use table::{agreeing_index, bad, bad_rules};
 
 /// The call on the table in place; bytes and area hold the reply afterwards.
 pub fn run(lent: &mut Lent, call: &mut Call) -> Number {
@@ -40,6 +41,7 @@ fn answer(lent: &mut Lent, call: &mut Call) -> Answer {
             look(lent, checks::REACH, |table| host::reach(table, *device, *address, *length, *write != 0))
         }
         Call::Charge => look(lent, checks::CHARGE, |table| host::charge(table)),
+        Call::Next { space, address } => look(lent, checks::NEXT, |table| host::next(table, *space, *address)),
     }
 }
 
@@ -53,6 +55,8 @@ fn look(lent: &Lent, name: Name, act: impl FnOnce(&mut Table) -> Answer) -> Answ
 fn change(lent: &mut Lent, name: Name, act: impl FnOnce(&mut Table) -> Answer) -> Answer {
     let mut table = good(lent, name)?;
     let done = act(&mut table)?;
+    // After any call not answered 117 the index lists exactly each space's mappings.
+    table.index = table.agreeing();
     table.store(lent);
     Ok(done)
 }

@@ -2,12 +2,13 @@
 use crate::calls::Lent;
 use iommufd::raw::{Mapping, Object};
 
-/// A field of a table. Records and objects count from 0.
+/// A field of a table. Records, objects and the words of the index count from 0.
 #[derive(Clone, Copy, Debug, PartialEq, Eq)]
 pub enum Place {
     Limit,
     Object { at: usize, field: usize },
     Record { at: usize, field: usize },
+    Index { at: usize },
 }
 
 pub const OBJECTS: usize = 32;
@@ -72,19 +73,21 @@ impl Place {
             Place::Limit => "limit".to_string(),
             Place::Object { at, field } => format!("object {} {}", at + 1, object_name(field)),
             Place::Record { at, field } => format!("record {} {}", at, RECORD_NAMES[field]),
+            Place::Index { at } => format!("index[{at}]"),
         }
     }
 
-    /// None where so many records are not lent.
+    /// None where so many records, or words of the index, are not lent.
     fn slot(self, lent: &mut Lent) -> Option<Slot<'_>> {
         match self {
             Place::Limit => Some(Slot::Full(&mut lent.head.limit)),
             Place::Object { at, field } => Some(object_slot(&mut lent.head.objects[at], field)),
             Place::Record { at, field } => lent.mappings.get_mut(at).map(|record| record_slot(record, field)),
+            Place::Index { at } => lent.index.get_mut(at).map(Slot::Full),
         }
     }
 
-    /// None where so many records are not lent.
+    /// None where so many records, or words of the index, are not lent.
     pub fn get(self, lent: &Lent) -> Option<u64> {
         match self {
             Place::Limit => Some(lent.head.limit),
@@ -96,6 +99,7 @@ impl Place {
                 let mut record = *record;
                 record_slot(&mut record, field).value()
             }),
+            Place::Index { at } => lent.index.get(at).copied(),
         }
     }
 
@@ -109,9 +113,10 @@ impl Place {
     }
 }
 
-/// Every field of a table with so many records.
-pub fn places(records: usize) -> impl Iterator<Item = Place> {
+/// Every field of a table with so many records and words of the index.
+pub fn places(records: usize, words: usize) -> impl Iterator<Item = Place> {
     let objects = (0..OBJECTS).flat_map(|at| (0..OBJECT_FIELDS).map(move |field| Place::Object { at, field }));
     let records = (0..records).flat_map(|at| (0..RECORD_FIELDS).map(move |field| Place::Record { at, field }));
-    std::iter::once(Place::Limit).chain(objects).chain(records)
+    let index = (0..words).map(|at| Place::Index { at });
+    std::iter::once(Place::Limit).chain(objects).chain(records).chain(index)
 }

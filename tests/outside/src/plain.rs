@@ -1,6 +1,7 @@
-//! What a systems programmer would write instead of the archive: plain safe Rust on the same layout, in place and without allocation. It gives
-//! document 01's answers for any table and any bytes where it checks the table before every call (`CHECKED`), and for good tables where it trusts the
-//! table. It goes by the archive's own steps, so that two programs are compared and not two algorithms.
+//! What a systems programmer would write instead of the archive: plain safe Rust on the same layout, in place and without allocation. It gives the papers'
+//! answers for any table and any bytes where it checks the table before every call (`CHECKED`), and for good tables where it trusts the table. It goes by
+//! the archive's own steps, so that two programs are compared and not two algorithms: what a call looks for it finds by a binary search of the index, and
+//! the index is kept by moving its words up or down.
 //!
 //! A command is decided on the table as it stands and only then applied, so that a refusal writes nothing and a preview is the decision alone.
 mod check;
@@ -17,10 +18,12 @@ mod tests;
 use crate::calls::{Call, Lent};
 use check::Found;
 use iommufd::raw::{Head, Mapping, Number, Object, Reserved};
-use table::Table;
+use table::{listed, Index, Records, Table};
 
 /// The records of a mapping table.
 const RECORDS: usize = 128;
+/// The words of its index.
+const WORDS: usize = 128;
 /// The highest charge limit, in pages.
 const MAX_LIMIT: u64 = 1 << 36;
 /// The longest mapping, in bytes.
@@ -69,11 +72,15 @@ fn refuse(fires: bool, errno: Errno) -> Answer<()> {
 
 /// What a call decides on a table, behind the first check of every call.
 #[inline(always)]
-fn decide<const CHECKED: bool, T>(head: &Head, mappings: &[Mapping], decide: impl FnOnce(Table) -> Answer<T>) -> Answer<T> {
-    let mappings = mappings.try_into().map_err(|_| EUCLEAN)?;
+fn decide<const CHECKED: bool, T>(head: &Head, mappings: &[Mapping], index: &[u64], decide: impl FnOnce(Table) -> Answer<T>) -> Answer<T> {
+    let mappings: &Records = mappings.try_into().map_err(|_| EUCLEAN)?;
+    let index: &Index = index.try_into().map_err(|_| EUCLEAN)?;
+    if !CHECKED {
+        return decide(Table { head, mappings, listed: listed(index), found: None });
+    }
     let mut found = Found::nothing();
-    refuse(CHECKED && !check::is_good(head, mappings, &mut found), EUCLEAN)?;
-    decide(Table { head, mappings, found: CHECKED.then_some(&found) })
+    refuse(!check::is_good(head, mappings, index, &mut found), EUCLEAN)?;
+    decide(Table { head, mappings, listed: &index[..found.used], found: Some(&found) })
 }
 
 fn result(answer: Answer<i32>) -> i32 {
@@ -90,8 +97,8 @@ fn number(answer: Answer<u64>) -> Number {
 // ---- the entries, each as its C sister in include/iommufd.h
 
 #[inline(never)]
-pub fn fresh(head: &mut Head, mappings: &mut [Mapping], limit: u64) -> i32 {
-    if mappings.len() != RECORDS {
+pub fn fresh(head: &mut Head, mappings: &mut [Mapping], index: &mut [u64], limit: u64) -> i32 {
+    if mappings.len() != RECORDS || index.len() != WORDS {
         return -EUCLEAN.0;
     }
     if limit > MAX_LIMIT {
@@ -100,27 +107,28 @@ pub fn fresh(head: &mut Head, mappings: &mut [Mapping], limit: u64) -> i32 {
     head.limit = limit;
     head.objects.fill(Object::default());
     mappings.fill(Mapping::default());
+    index.fill(0);
     0
 }
 
 #[inline(never)]
-pub fn call<const CHECKED: bool>(head: &mut Head, mappings: &mut [Mapping], request: u32, command: &mut [u8], area: &mut [u8]) -> i32 {
-    let decided = decide::<CHECKED, _>(head, mappings, |t| commands::decide(t, request, command, area));
+pub fn call<const CHECKED: bool>(head: &mut Head, mappings: &mut [Mapping], index: &mut [u64], request: u32, command: &mut [u8], area: &mut [u8]) -> i32 {
+    let decided = decide::<CHECKED, _>(head, mappings, index, |t| commands::decide(t, request, command, area));
     result(decided.map(|change| {
-        commands::apply(head, mappings, change, area);
+        commands::apply(head, mappings, index, change, area);
         0
     }))
 }
 
 #[inline(never)]
-pub fn preview<const CHECKED: bool>(head: &Head, mappings: &[Mapping], request: u32, command: &mut [u8], area: &mut [u8]) -> i32 {
-    let decided = decide::<CHECKED, _>(head, mappings, |t| commands::decide(t, request, command, area));
+pub fn preview<const CHECKED: bool>(head: &Head, mappings: &[Mapping], index: &[u64], request: u32, command: &mut [u8], area: &mut [u8]) -> i32 {
+    let decided = decide::<CHECKED, _>(head, mappings, index, |t| commands::decide(t, request, command, area));
     result(decided.map(|_| 0))
 }
 
 #[inline(never)]
-pub fn bind<const CHECKED: bool>(head: &mut Head, mappings: &mut [Mapping], bitmap: u64, reserved: &Reserved) -> i32 {
-    let place = decide::<CHECKED, _>(head, mappings, |t| host::bind(t, bitmap, reserved));
+pub fn bind<const CHECKED: bool>(head: &mut Head, mappings: &[Mapping], index: &[u64], bitmap: u64, reserved: &Reserved) -> i32 {
+    let place = decide::<CHECKED, _>(head, mappings, index, |t| host::bind(t, bitmap, reserved));
     result(place.map(|i| {
         head.objects[i] = host::device(bitmap, reserved);
         i as i32 + 1
@@ -128,8 +136,8 @@ pub fn bind<const CHECKED: bool>(head: &mut Head, mappings: &mut [Mapping], bitm
 }
 
 #[inline(never)]
-pub fn attach<const CHECKED: bool>(head: &mut Head, mappings: &mut [Mapping], device: u32, space: u32) -> i32 {
-    let place = decide::<CHECKED, _>(head, mappings, |t| host::attach(t, device, space));
+pub fn attach<const CHECKED: bool>(head: &mut Head, mappings: &[Mapping], index: &[u64], device: u32, space: u32) -> i32 {
+    let place = decide::<CHECKED, _>(head, mappings, index, |t| host::attach(t, device, space));
     result(place.map(|i| {
         head.objects[i].kind = ATTACHED;
         head.objects[i].home = space;
@@ -138,8 +146,8 @@ pub fn attach<const CHECKED: bool>(head: &mut Head, mappings: &mut [Mapping], de
 }
 
 #[inline(never)]
-pub fn detach<const CHECKED: bool>(head: &mut Head, mappings: &mut [Mapping], device: u32) -> i32 {
-    let place = decide::<CHECKED, _>(head, mappings, |t| host::detach(t, device));
+pub fn detach<const CHECKED: bool>(head: &mut Head, mappings: &[Mapping], index: &[u64], device: u32) -> i32 {
+    let place = decide::<CHECKED, _>(head, mappings, index, |t| host::detach(t, device));
     result(place.map(|i| {
         head.objects[i].kind = LOOSE;
         head.objects[i].home = 0;
@@ -148,13 +156,19 @@ pub fn detach<const CHECKED: bool>(head: &mut Head, mappings: &mut [Mapping], de
 }
 
 #[inline(never)]
-pub fn reach<const CHECKED: bool>(head: &Head, mappings: &[Mapping], device: u32, address: u64, length: u64, write: u32) -> Number {
-    number(decide::<CHECKED, _>(head, mappings, |t| host::reach(t, device, address, length, write != 0)))
+pub fn reach<const CHECKED: bool>(head: &Head, mappings: &[Mapping], index: &[u64], device: u32, address: u64, length: u64, write: u32) -> Number {
+    number(decide::<CHECKED, _>(head, mappings, index, |t| host::reach(t, device, address, length, write != 0)))
 }
 
 #[inline(never)]
-pub fn charge<const CHECKED: bool>(head: &Head, mappings: &[Mapping]) -> Number {
-    number(decide::<CHECKED, _>(head, mappings, |t| Ok(t.charge())))
+pub fn charge<const CHECKED: bool>(head: &Head, mappings: &[Mapping], index: &[u64]) -> Number {
+    number(decide::<CHECKED, _>(head, mappings, index, |t| Ok(t.charge())))
+}
+
+/// The value is the number of a record.
+#[inline(never)]
+pub fn next<const CHECKED: bool>(head: &Head, mappings: &[Mapping], index: &[u64], space: u32, address: u64) -> Number {
+    number(decide::<CHECKED, _>(head, mappings, index, |t| host::next(t, space, address)))
 }
 
 // ---- as systems
@@ -170,17 +184,17 @@ pub fn trusting(lent: &mut Lent, call: &mut Call) -> Number {
 }
 
 fn run<const CHECKED: bool>(lent: &mut Lent, asked: &mut Call) -> Number {
-    let head = &mut *lent.head;
-    let mappings = &mut lent.mappings[..];
+    let (head, mappings, index) = (&mut *lent.head, &mut lent.mappings[..], &mut lent.index[..]);
     let told = |result| Number { result, value: 0 };
     match asked {
-        Call::Fresh { limit } => told(fresh(head, mappings, *limit)),
-        Call::Command { request, bytes, area } => told(call::<CHECKED>(head, mappings, *request, bytes, area)),
-        Call::Preview { request, bytes, area } => told(preview::<CHECKED>(head, mappings, *request, bytes, area)),
-        Call::Bind { bitmap, reserved } => told(bind::<CHECKED>(head, mappings, *bitmap, reserved)),
-        Call::Attach { device, space } => told(attach::<CHECKED>(head, mappings, *device, *space)),
-        Call::Detach { device } => told(detach::<CHECKED>(head, mappings, *device)),
-        Call::Reach { device, address, length, write } => reach::<CHECKED>(head, mappings, *device, *address, *length, *write),
-        Call::Charge => charge::<CHECKED>(head, mappings),
+        Call::Fresh { limit } => told(fresh(head, mappings, index, *limit)),
+        Call::Command { request, bytes, area } => told(call::<CHECKED>(head, mappings, index, *request, bytes, area)),
+        Call::Preview { request, bytes, area } => told(preview::<CHECKED>(head, mappings, index, *request, bytes, area)),
+        Call::Bind { bitmap, reserved } => told(bind::<CHECKED>(head, mappings, index, *bitmap, reserved)),
+        Call::Attach { device, space } => told(attach::<CHECKED>(head, mappings, index, *device, *space)),
+        Call::Detach { device } => told(detach::<CHECKED>(head, mappings, index, *device)),
+        Call::Reach { device, address, length, write } => reach::<CHECKED>(head, mappings, index, *device, *address, *length, *write),
+        Call::Charge => charge::<CHECKED>(head, mappings, index),
+        Call::Next { space, address } => next::<CHECKED>(head, mappings, index, *space, *address),
     }
 }

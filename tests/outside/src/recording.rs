@@ -1,25 +1,26 @@
 //! What the archive was given and what it answered, call by call, as bytes that tests/replay/replay.c reads.
 //!
 //! All numbers are little-endian. A head, a mapping record and a list of reserved ranges are the memory of their structs in include/iommufd.h, which have no gaps.
-//! A recording is the 8 bytes `IOMMUFD1`, then items. An item is a u32 that says what it is, and what stands beside it here; the
+//! A recording is the 8 bytes `IOMMUFD2`, then items. An item is a u32 that says what it is, and what stands beside it here; the
 //! calls have their names in the header:
 //!
 //! | u32 | what it is | what follows |
 //! |---|---|---|
 //! | 0 | the end | u64 digest of all bytes before it |
 //! | 1 | a sequence begins | u64 seed, the number that `differential --sequence` takes |
-//! | 2 | the table's memory was changed from outside | u32 number of records that are lent, head, so many records |
+//! | 2 | the table's memory was changed from outside | u32 number of records that are lent, u32 number of words of the index, head, so many records, so many words |
 //! | 3 | `iommufd_fresh` | u64 limit |
-//! | 4 | `iommufd_command` | u32 request, u32 size of the command, u32 size of the area, the bytes of both |
-//! | 5 | `iommufd_command_preview` | the same |
+//! | 4 | `iommufd_call` | u32 request, u32 size of the command, u32 size of the area, the bytes of both |
+//! | 5 | `iommufd_preview` | the same |
 //! | 6 | `iommufd_bind` | u64 bitmap, reserved ranges |
 //! | 7 | `iommufd_attach` | u32 device, u32 space |
 //! | 8 | `iommufd_detach` | u32 device |
 //! | 9 | `iommufd_reach` | u32 device, u64 address, u64 length, u32 write |
 //! | 10 | `iommufd_charge` | |
+//! | 11 | `iommufd_next` | u32 space, u64 address; its number is recorded as the value, beside result 0 |
 //!
 //! The items from 3 on are calls, on the table as the item before left it. Behind the arguments of each stands its answer: i32 result, u64 value (0 where the call gives
-//! none), u64 digest of head, records, command and area after the call. The first call of a sequence has an item 2 before it. A digest is FNV-1a of 64 bits.
+//! none), u64 digest of head, records, index, command and area after the call. The first call of a sequence has an item 2 before it. A digest is FNV-1a of 64 bits.
 use crate::calls::{Call, Lent};
 use crate::compare::{Answer, Difference, Tried};
 use crate::coverage::Coverage;
@@ -28,7 +29,7 @@ use crate::steps::Step;
 use iommufd::raw::{Head, Mapping, Reserved};
 use std::slice;
 
-const BEGINNING: [u8; 8] = *b"IOMMUFD1";
+const BEGINNING: [u8; 8] = *b"IOMMUFD2";
 
 enum Item {
     End,
@@ -42,6 +43,7 @@ enum Item {
     Detach,
     Reach,
     Charge,
+    Next,
 }
 
 /// Numbers beside each other without a gap.
@@ -53,6 +55,7 @@ unsafe trait Plain {}
 unsafe impl Plain for Head {}
 unsafe impl Plain for Mapping {}
 unsafe impl Plain for Reserved {}
+unsafe impl Plain for u64 {}
 
 /// Values as they lie in memory.
 fn memory<T: Plain>(values: &[T]) -> &[u8] {
@@ -138,7 +141,8 @@ impl Recording {
     }
 
     fn table(&mut self, lent: &Lent) {
-        self.item(Item::Table).small(lent.mappings.len() as u32).part(memory(slice::from_ref(&*lent.head))).part(memory(&lent.mappings));
+        self.item(Item::Table).small(lent.mappings.len() as u32).small(lent.index.len() as u32);
+        self.part(memory(slice::from_ref(&*lent.head))).part(memory(&lent.mappings)).part(memory(&lent.index));
     }
 
     fn call(&mut self, call: &Call) {
@@ -151,6 +155,7 @@ impl Recording {
             Call::Detach { device } => self.item(Item::Detach).small(*device),
             Call::Reach { device, address, length, write } => self.item(Item::Reach).small(*device).large(*address).large(*length).small(*write),
             Call::Charge => self.item(Item::Charge),
+            Call::Next { space, address } => self.item(Item::Next).small(*space).large(*address),
         };
     }
 
@@ -161,7 +166,7 @@ impl Recording {
     /// The table is the model's, which was found alike.
     fn answer(&mut self, answer: &Answer, lent: &Lent) {
         let (bytes, area) = answer.call.lent_bytes();
-        let table = Digest::NONE.with(memory(slice::from_ref(&*lent.head))).with(memory(&lent.mappings));
+        let table = Digest::NONE.with(memory(slice::from_ref(&*lent.head))).with(memory(&lent.mappings)).with(memory(&lent.index));
         let from = self.bytes.len();
         self.part(&answer.number.result.to_le_bytes()).large(answer.number.value).large(table.with(bytes).with(area).0);
         self.answers = self.answers.with(&self.bytes[from..]);

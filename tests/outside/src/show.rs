@@ -19,7 +19,13 @@ fn damage(change: &Damage) -> String {
         Damage::Set(place, value) => format!("set {} to {value:#x}", place.name()),
         Damage::Alike { from, to } => format!("write record {from} over record {to}"),
         Damage::Swap(one, other) => format!("swap records {one} and {other}"),
+        Damage::Release(at) => format!("release record {at}"),
         Damage::Lend(count) => format!("lend {count} records"),
+        Damage::SwapWords(one, other) => format!("swap index[{one}] and index[{other}]"),
+        Damage::MoveWord { from, to } => format!("move index[{from}] to index[{to}]"),
+        Damage::DropWord(at) => format!("drop index[{at}]"),
+        Damage::LendWords(count) => format!("lend {count} words of the index"),
+        Damage::Agree => "let the index agree".to_string(),
     }
 }
 
@@ -33,6 +39,7 @@ fn call_line(call: &Call) -> String {
         Call::Detach { device } => format!("detach {device}"),
         Call::Reach { device, address, length, write } => format!("reach device={device} address={address:#x} length={length:#x} write={write}"),
         Call::Charge => "charge".to_string(),
+        Call::Next { space, address } => format!("next space={space} address={address:#x}"),
     }
 }
 

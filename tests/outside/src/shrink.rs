@@ -1,8 +1,9 @@
 //! A sequence with a difference made short and simple while a difference persists.
 use crate::calls::{Call, Lent};
 use crate::compare::{replay, Difference, Tried};
+use crate::places::Place;
 use crate::steps::{Damage, Step};
-use crate::wire::{self, Form, Says, ALLOC, UNMAP};
+use crate::wire::{self, Form, Says, ALLOC, COPY, MAP, UNMAP};
 use crate::{model, show};
 use iommufd::raw::Reserved;
 
@@ -24,7 +25,7 @@ pub fn shrink(tried: Tried, steps: Vec<Step>) -> Option<(Vec<Step>, Difference)>
     let (at, difference) = replay(tried, &steps)?;
     let mut shrinker = Shrinker { tried, steps: steps[..=at].to_vec(), difference, left: REPLAYED };
     shrinker.drop_blocks();
-    while shrinker.simplify() || shrinker.drop_pair() || shrinker.drop_object() {
+    while shrinker.simplify() || shrinker.drop_pair() || shrinker.drop_object() || shrinker.drop_beside_place() {
         shrinker.drop_blocks();
     }
     shrinker.order_as_plan();
@@ -70,6 +71,19 @@ impl Shrinker {
         pairs.take(FEW_PAIRS).any(|(one, other)| {
             let kept = self.steps.iter().enumerate().filter(|(k, _)| *k != one && *k != other);
             let steps = kept.map(|(_, step)| step.clone()).collect();
+            self.takes(steps)
+        })
+    }
+
+    /// Leaves out a step that an automatic place came from, such as an allow list, with the place fixed where it was; true if there was one.
+    fn drop_beside_place(&mut self) -> bool {
+        let last = self.steps.len() - 1;
+        let placed = fixed_places(&self.steps[..last]);
+        let pairs = placed.iter().flat_map(|(at, step)| (0..last).filter(move |k| k != at).map(move |k| (*at, step, k)));
+        pairs.take(FEW_PAIRS).any(|(at, step, k)| {
+            let mut steps = self.steps.clone();
+            steps[at] = step.clone();
+            steps.remove(k);
             self.takes(steps)
         })
     }
@@ -177,15 +191,51 @@ fn simpler_damage(changes: &[Damage]) -> Vec<Step> {
         if !others.is_empty() {
             tries.push(others);
         }
-        if let Damage::Set(place, value) = change {
-            tries.extend(smaller(*value).into_iter().map(|new| {
-                let mut changed = changes.to_vec();
-                changed[k] = Damage::Set(*place, new);
-                changed
-            }));
-        }
+        tries.extend(simpler_changes(*change).into_iter().map(|new| {
+            let mut changed = changes.to_vec();
+            changed[k] = new;
+            changed
+        }));
     }
     tries.into_iter().map(Step::Damage).collect()
+}
+
+/// A smaller value, or a place of the index further in front.
+fn simpler_changes(change: Damage) -> Vec<Damage> {
+    let places = |at: usize| smaller(at as u64).into_iter().map(|new| new as usize);
+    let pairs = |one: usize, other: usize| {
+        let both = one.checked_sub(1).zip(other.checked_sub(1));
+        places(one).map(move |one| (one, other)).chain(places(other).map(move |other| (one, other))).chain(both).collect::<Vec<_>>()
+    };
+    match change {
+        Damage::Set(Place::Index { at }, value) => {
+            let values = smaller(value).into_iter().map(|value| Damage::Set(Place::Index { at }, value));
+            values.chain(places(at).map(|at| Damage::Set(Place::Index { at }, value))).collect()
+        }
+        Damage::Set(place, value) => smaller(value).into_iter().map(|value| Damage::Set(place, value)).collect(),
+        Damage::SwapWords(one, other) => pairs(one, other).into_iter().map(|(one, other)| Damage::SwapWords(one, other)).collect(),
+        Damage::MoveWord { from, to } => pairs(from, to).into_iter().map(|(from, to)| Damage::MoveWord { from, to }).collect(),
+        Damage::DropWord(at) => places(at).map(Damage::DropWord).collect(),
+        _ => vec![],
+    }
+}
+
+/// The accepted commands before the first damage that have their place chosen, each with the place fixed there.
+fn fixed_places(steps: &[Step]) -> Vec<(usize, Step)> {
+    let (mut lent, mut placed) = (Lent::zeroed(), vec![]);
+    for (at, step) in steps.iter().enumerate() {
+        let Step::Call(call) = step else { break };
+        let mut call = call.clone();
+        let accepted = model::run(&mut lent, &mut call).result == 0;
+        if let (true, Call::Command { request: MAP | COPY, bytes, .. }) = (accepted, &mut call) {
+            // the reply has the address in its field
+            if bytes[4] & wire::FIXED as u8 == 0 {
+                bytes[4] |= wire::FIXED as u8;
+                placed.push((at, Step::Call(call)));
+            }
+        }
+    }
+    placed
 }
 
 fn simpler_calls(call: &Call) -> Vec<Call> {
@@ -209,6 +259,10 @@ fn simpler_calls(call: &Call) -> Vec<Call> {
         Call::Detach { device } => smaller_half(*device).into_iter().map(|device| Call::Detach { device }).collect(),
         Call::Reach { device, address, length, write } => simpler_reaches(*device, *address, *length, *write),
         Call::Charge => vec![],
+        Call::Next { space, address } => {
+            let spaces = smaller_half(*space).into_iter().map(|space| Call::Next { space, address: *address });
+            spaces.chain(smaller(*address).into_iter().map(|address| Call::Next { space: *space, address })).collect()
+        }
     }
 }
 

@@ -27,7 +27,7 @@ pub struct Row {
 }
 
 impl Row {
-    fn figure(&self, letter: char) -> Option<&Figure> {
+    pub fn figure(&self, letter: char) -> Option<&Figure> {
         self.figures.iter().find(|f| f.letter == letter)
     }
 

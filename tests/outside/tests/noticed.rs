@@ -28,6 +28,30 @@ fn keeps_a_byte(_: &mut Dice, lent: &mut Lent, call: &mut Call) -> Told {
     Ok(number)
 }
 
+/// A removal leaves the last number of the index where it stood.
+fn keeps_a_number(_: &mut Dice, lent: &mut Lent, call: &mut Call) -> Told {
+    let before = lent.index.iter().rposition(|number| *number != 0).map(|at| (at, lent.index[at]));
+    let removes = matches!(call, Call::Command { request: wire::UNMAP, .. });
+    let number = model::run(lent, call);
+    if let (true, 0, Some((at, kept))) = (removes, number.result, before) {
+        lent.index[at] = kept;
+    }
+    Ok(number)
+}
+
+/// An index of which two words are out of order is overlooked by calls that do not use it.
+fn overlooks_an_order(_: &mut Dice, lent: &mut Lent, call: &mut Call) -> Told {
+    let overlooked = matches!(call, Call::Charge | Call::Bind { .. }) && model::bad(lent).is_some_and(|rule| rule.contains("out of order"));
+    if !overlooked {
+        return Ok(model::run(lent, call));
+    }
+    let kept = lent.index.clone();
+    lent.index = model::agreeing_index(lent);
+    let number = model::run(lent, call);
+    lent.index = kept;
+    Ok(number)
+}
+
 /// A refusal by 17 writes into the address field.
 fn writes_at_a_refusal(_: &mut Dice, lent: &mut Lent, call: &mut Call) -> Told {
     let number = model::run(lent, call);
@@ -77,6 +101,21 @@ fn a_byte_in_a_released_record() {
 }
 
 #[test]
+fn a_number_in_the_index_of_a_released_record() {
+    let (steps, parts) = found(keeps_a_number);
+    assert!(steps.len() <= 4, "{:#?}", lines(&steps));
+    assert!(parts.iter().any(|part| part == "index[0]: model 0x0, system 0x1"), "{parts:?}");
+    assert!(show::plan(&steps).is_some_and(|plan| assembles(&plan)));
+}
+
+#[test]
+fn an_index_out_of_order_that_is_overlooked() {
+    let (steps, parts) = found(overlooks_an_order);
+    assert!(steps.len() <= 7 && lines(&steps).iter().any(|line| line.contains("index[")), "{:#?}", lines(&steps));
+    assert!(parts.iter().any(|part| part.starts_with("result: model -117, system ")), "{parts:?}");
+}
+
+#[test]
 fn a_refusal_that_writes() {
     let (steps, parts) = found(writes_at_a_refusal);
     assert!(steps.len() <= 4, "{:#?}", lines(&steps));
@@ -121,10 +160,13 @@ fn a_seed_makes_one_sequence() {
 #[test]
 fn damage_is_undone() {
     let fresh = Step::Call(Call::Fresh { limit: 4 });
-    let steps = [fresh, Step::Damage(vec![Damage::Lend(127)]), Step::Call(Call::Charge), Step::Restore, Step::Call(Call::Charge)];
-    assert!(replay(guards::run, &steps).is_none());
-    assert_eq!(show::plan(&steps), None);
-    assert_eq!(lines(&steps)[1..4], ["lend 127 records", "charge", "restore"]);
+    for (damage, told) in [(Damage::Lend(127), "lend 127 records"), (Damage::LendWords(129), "lend 129 words of the index")] {
+        let damaged = Step::Damage(vec![damage]);
+        let steps = [fresh.clone(), damaged, Step::Call(Call::Charge), Step::Restore, Step::Call(Call::Charge)];
+        assert!(replay(guards::run, &steps).is_none());
+        assert_eq!(show::plan(&steps), None);
+        assert_eq!(lines(&steps)[1..4], [told, "charge", "restore"]);
+    }
 }
 
 // ---- the text of plans

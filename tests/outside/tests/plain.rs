@@ -10,7 +10,7 @@ use outside::{model, plain, show};
 type Told = Result<Number, &'static str>;
 
 /// Chosen and so many that every check of every call and every rule of a bad table is come to.
-const JOB: Job = Job::Fixed { seeds: &[7, 8], each: 400 };
+const JOB: Job = Job::Fixed { seeds: &[7, 8, 9], each: 400 };
 
 fn checked(_: &mut Dice, lent: &mut Lent, call: &mut Call) -> Told {
     Ok(plain::checked(lent, call))

@@ -1,4 +1,4 @@
--- `boundary::iommufd_preview` meets its contract: a walk of its MIR, by hand. Head, records and the words beside are `&`: each is copied for a callee and kept. A local array is lent to `load`, and then to the covered call, to which the byte slices are given up. No branch, no loop.
+-- `boundary::iommufd_preview` meets its contract: a walk of its MIR, by hand. Head, records and index are `&`, head and index of one lifetime: each is copied for a callee and kept. A local array is lent to `load`, and then to the covered call, to which the byte slices are given up. No branch, no loop.
 -- Assumes nothing.
 use Rattle.walks.specs.Names.{_≡_, refl, ℕ, _<_, _^_, List, [], _∷_, ℤ, length, URA, named, w32, w64, Val, vint, vptr, SProp, ent, emp, via, fst∗, id⊢, Lft, GName, Share, Fml, ftrue, fat, flft, fsep, Memory, Routine, Heap, WpFn, Tables, Atoms, Fun, fact, givenOf, tables, tablesOf, Given, Item, ‵, raw, _⊛_, ⋆, some, later, _$_, _∵_, !, qed, by, move, drop, split, join, pick, use1, use3, fsplit, fjoin, feqL, suffices, frame, await, done, agg, whole, sub, look-in, rep, look, init, forget, stop, hop, fld, from, load, addr, of-opd, and-then, no-more, assigns, land, returns, enter, alloc1, alloc0, params1, pass1, pass0, free1, free0, lit, fmOf, WpFn-mono, owns, Is, shows, uint-vals, uint-tells, uint-makes, sint-makes, sint-lawful, u8, u32, u64, usize, i32, RefT, MutRef, ptr-vals, ShrRef, shr-tells, shr-copy, sliceVal, MutSlice, Room, finally, slice-vals, mut-slice-tells, ShrSlice, shr-slice-tells, shr-slice-copy, plain, nothing, owned, peeks, heard, Vals, onEntry, Meets, tripleOf, Contract, Triple, calls-at, ensured, Lasts, lasts, entered, cited, says, Stays, stay-none, gave-slice, walkOf, goes-none, goes-gave-slice, Walks, ends-at, walked, walk-meets, stay-none-slice, goes-none-slice, stay-none-ref, goes-none-ref, yes, fullShare, lft-new, lft-end}
 use Rattle.rules_table.specs.declared.Mapping.{Mapping}
@@ -21,12 +21,12 @@ use Rattle.boundary.proofs.iommufd_preview.Statement as stated
 use Rattle.boundary.proofs.iommufd_preview.Code as code
 
 abbrev stayed : Stays (f.ended .signature .params) (f.ended .kept)
-stayed = (stay-none-ref (0 ∷ []) tt (plain (λ _. Hd)) yes, (stay-none-slice (1 ∷ []) tt (plain (λ _. R)) yes, (stay-none-slice (2 ∷ []) tt (plain (λ _. u64)) yes, (stay-none (λ _. u32) yes, (gave-slice (3 ∷ []) tt (plain (λ _. u8)), (gave-slice (4 ∷ []) tt (plain (λ _. u8)), tt))))))
+stayed = (stay-none-ref (0 ∷ []) tt (plain (λ _. Hd)) yes, (stay-none-slice (1 ∷ []) tt (plain (λ _. R)) yes, (stay-none-slice (0 ∷ []) tt (plain (λ _. u64)) yes, (stay-none (λ _. u32) yes, (gave-slice (2 ∷ []) tt (plain (λ _. u8)), (gave-slice (3 ∷ []) tt (plain (λ _. u8)), tt))))))
 
 abbrev Core : {M : Type 1} (𝓤 : URA M) (H : Heap 𝓤) (A : Atoms 𝓤) → (Memory → SProp 𝓤) → (Routine → Fun 𝓤) → Contract 𝓤
 Core 𝓤 H A at-mem run = tripleOf 𝓤 H A co.signature (co.spec 𝓤 H A at-mem run)
 
-module _ {M : Type 1} (𝓤 : URA M) (H : Heap 𝓤) (A : Atoms 𝓤) (W : Given 𝓤 H A) (at-mem : Memory → SProp 𝓤) (run : Routine → Fun 𝓤) (κ κ₁ κ₂ κ₃ κ₄ : Lft) (q q₁ q₂ q₃ q₄ : Share) (head : Words) (ms : RefT (List Mapping)) (beside : Words) (request : ℕ) (cmd area : Words)
+module _ {M : Type 1} (𝓤 : URA M) (H : Heap 𝓤) (A : Atoms 𝓤) (W : Given 𝓤 H A) (at-mem : Memory → SProp 𝓤) (run : Routine → Fun 𝓤) (κ κ₁ κ₂ κ₃ : Lft) (q q₁ q₂ q₃ : Share) (head : Words) (ms : RefT (List Mapping)) (beside : Words) (request : ℕ) (cmd area : Words)
     (gn : Room R (length (ms .now))) (gb : Room u64 (length (beside .now))) (gr : request < 2 ^ 32) (gc : Room u8 (length (cmd .now))) (ga : Room u8 (length (area .now))) where
   abbrev ys : List Mapping
   ys = ms .now
@@ -49,15 +49,15 @@ module _ {M : Type 1} (𝓤 : URA M) (H : Heap 𝓤) (A : Atoms 𝓤) (W : Given
   abbrev x : Words × (RefT (List Mapping) × (Words × (ℕ × (Words × (Words × Unit {0})))))
   x = (head, (ms, (beside, (request, (cmd, (area, tt))))))
 
-  abbrev at : Vals f.signature (κ, (κ₁, (κ₂, (κ₃, (κ₄, tt)))))
+  abbrev at : Vals f.signature (κ, (κ₁, (κ₂, (κ₃, tt))))
   at = (v₀ ∷ [], (s₁ ∷ [], (s₂ ∷ [], (vint w32 request ∷ [], (s₃ ∷ [], (s₄ ∷ [], tt))))))
 
   abbrev Post : Val → SProp 𝓤
-  Post = walkOf 𝓤 H A f.ended stayed (f.clauses 𝓤 H A at-mem run) .post (((κ, (κ₁, (κ₂, (κ₃, (κ₄, tt))))), (q, (q₁, (q₂, (q₃, (q₄, tt))))), tt, x, at), tt)
+  Post = walkOf 𝓤 H A f.ended stayed (f.clauses 𝓤 H A at-mem run) .post (((κ, (κ₁, (κ₂, (κ₃, tt)))), (q, (q₁, (q₂, (q₃, tt)))), tt, x, at), tt)
 
   -- the tokens that the core gets beside the head's, and what is held
   abbrev rest : Item 𝓤
-  rest = ‵ (flft κ₂ q₂) ⊛ ‵ (flft κ₃ q₃) ⊛ ‵ (flft κ₄ q₄) ⊛ ‵ ftrue
+  rest = ‵ (flft κ₂ q₂) ⊛ ‵ (flft κ₃ q₃) ⊛ ‵ ftrue
 
   abbrev held-head : Fml
   held-head = ShrRef (named 0) κ Hd .own head (v₀ ∷ [])
@@ -66,18 +66,18 @@ module _ {M : Type 1} (𝓤 : URA M) (H : Heap 𝓤) (A : Atoms 𝓤) (W : Given
   held-ms = ShrSlice (named 1) κ₁ R .own ms (s₁ ∷ [])
 
   abbrev held-beside : Fml
-  held-beside = ShrSlice (named 2) κ₂ u64 .own beside (s₂ ∷ [])
+  held-beside = ShrSlice (named 0) κ u64 .own beside (s₂ ∷ [])
 
   abbrev held-rest : Fml
-  held-rest = owns (ShrSlice (named 2) κ₂ u64 ∷ u32 ∷ MutSlice (named 3) κ₃ u8 ∷ MutSlice (named 4) κ₄ u8 ∷ []) (beside, (request, (cmd, (area, tt)))) (s₂ ∷ [], (vint w32 request ∷ [], (s₃ ∷ [], (s₄ ∷ [], tt))))
+  held-rest = owns (ShrSlice (named 0) κ u64 ∷ u32 ∷ MutSlice (named 2) κ₂ u8 ∷ MutSlice (named 3) κ₃ u8 ∷ []) (beside, (request, (cmd, (area, tt)))) (s₂ ∷ [], (vint w32 request ∷ [], (s₃ ∷ [], (s₄ ∷ [], tt))))
 
   abbrev left : List ℕ → List ℕ → List (Item 𝓤)
   left cs′ rs′ = (‵ (flft κ q) ⊛ rest) ∷ ‵ (finally u8 (area .name) rs′) ∷ ‵ (finally u8 (cmd .name) cs′) ∷ ‵ held-beside ∷ ‵ held-head ∷ ‵ (flft κ₁ q₁) ∷ ‵ held-ms ∷ []
 
-  exits : (r : ℤ) (v : Val) (cs′ rs′ : List ℕ) → Previewed (head .now) ys request (cmd .now) (area .now) r cs′ rs′ → length cs′ ≡ length (cmd .now) → length rs′ ≡ length (area .now) → Is i32 r (v ∷ []) → ent 𝓤 (⋆ 𝓤 H A (left cs′ rs′)) (Post v)
+  exits : (r : ℤ) (v : Val) (cs′ rs′ : List ℕ) → Previewed (head .now) ys (beside .now) request (cmd .now) (area .now) r cs′ rs′ → length cs′ ≡ length (cmd .now) → length rs′ ≡ length (area .now) → Is i32 r (v ∷ []) → ent 𝓤 (⋆ 𝓤 H A (left cs′ rs′)) (Post v)
   exits r v cs′ rs′ e len₃ len₄ is =
       qed W (left cs′ rs′) ∵
-      suffices ! _ (ends-at 𝓤 H A f.ended stayed (f.clauses 𝓤 H A at-mem run) W (((κ, (κ₁, (κ₂, (κ₃, (κ₄, tt))))), (q, (q₁, (q₂, (q₃, (q₄, tt))))), tt, x, at), tt) v r (tt, (tt, (tt, (tt, (cs′, (rs′, tt)))))) (tt, (tt, (tt, (tt, (len₃, (len₄, tt))))))) $ says ! e $
+      suffices ! _ (ends-at 𝓤 H A f.ended stayed (f.clauses 𝓤 H A at-mem run) W (((κ, (κ₁, (κ₂, (κ₃, tt)))), (q, (q₁, (q₂, (q₃, tt)))), tt, x, at), tt) v r (tt, (tt, (tt, (tt, (cs′, (rs′, tt)))))) (tt, (tt, (tt, (tt, (len₃, (len₄, tt))))))) $ says ! e $
       split ! $ move ! (6 ∷ 1 ∷ []) $ join ! $ move ! (1 ∷ 0 ∷ []) $ join ! $ frame ! $ nothing ! $ move ! (1 ∷ 0 ∷ []) $ fjoin ! $ move ! (1 ∷ 0 ∷ []) $ fjoin ! $ owned ! u32 (Is u32) (uint-makes 𝓤 H A W w32) request _ (refl, gr) $ fjoin ! $
       move ! (1 ∷ 0 ∷ []) $ fjoin ! $ move ! (2 ∷ 0 ∷ []) $ fjoin ! $ move ! (1 ∷ 0 ∷ []) $ fjoin ! $ frame ! $ owned ! i32 (Is i32) (sint-makes 𝓤 H A W w32) r _ is $ done !
 
@@ -85,11 +85,11 @@ module _ {M : Type 1} (𝓤 : URA M) (H : Heap 𝓤) (A : Atoms 𝓤) (W : Given
   abbrev in-core : ℕ → GName → List (List ℕ) → Words × (ℕ × (RefT (List (List ℕ)) × (Words × (ℕ × (Words × (Words × Unit {0}))))))
   in-core l δ ws = (head, (length ys, (ws-ref l δ ws, (beside, (request, (cmd, (area, tt)))))))
 
-  abbrev lives : ℕ → Lft × (Lft × (Lft × (Lft × (Lft × Unit {0}))))
-  lives ν = (κ, (ν ∷ [], (κ₂, (κ₃, (κ₄, tt)))))
+  abbrev lives : ℕ → Lft × (Lft × (Lft × (Lft × Unit {0})))
+  lives ν = (κ, (ν ∷ [], (κ₂, (κ₃, tt))))
 
   abbrev to-core : ℕ → ℕ → GName → List (List ℕ) → Core 𝓤 H A at-mem run .Ghost
-  to-core ν l δ ws = ((lives ν, (q, (fullShare, (q₂, (q₃, (q₄, tt))))), tt, in-core l δ ws, (v₀ ∷ [], (vint w64 (length ys) ∷ [], (vptr l 0 ∷ [], (s₂ ∷ [], (vint w32 request ∷ [], (s₃ ∷ [], (s₄ ∷ [], tt)))))))), tt)
+  to-core ν l δ ws = ((lives ν, (q, (fullShare, (q₂, (q₃, tt)))), tt, in-core l δ ws, (v₀ ∷ [], (vint w64 (length ys) ∷ [], (vptr l 0 ∷ [], (s₂ ∷ [], (vint w32 request ∷ [], (s₃ ∷ [], (s₄ ∷ [], tt)))))))), tt)
 
   abbrev lent-ws : ℕ → ℕ → GName → List (List ℕ) → Fml
   lent-ws ν l δ ws = MutRef (named 1) (ν ∷ []) Ws .own (ws-ref l δ ws) (vptr l 0 ∷ [])
@@ -103,10 +103,10 @@ module _ {M : Type 1} (𝓤 : URA M) (H : Heap 𝓤) (A : Atoms 𝓤) (W : Given
       owned ! usize (Is usize) (uint-makes 𝓤 H A W w64) (length ys) _ (refl, gn .0) $ fjoin ! $ move ! (2 ∷ 0 ∷ []) $ fjoin ! $ move ! (1 ∷ 0 ∷ []) $ join ! $ frame ! $ done !
 
   walk : (𝓣 : Tables 𝓤 H) → Triple 𝓤 (𝓣 .C #lent-records·load) (Load 𝓤 H A at-mem run) → Triple 𝓤 (𝓣 .C #lent-core·preview) (Core 𝓤 H A at-mem run)
-      → ent 𝓤 (onEntry 𝓤 H A f.signature (κ, (κ₁, (κ₂, (κ₃, (κ₄, tt))))) (q, (q₁, (q₂, (q₃, (q₄, tt))))) x at) (WpFn 𝓤 H (𝓣 .C) (𝓣 .Λ) code.function (v₀ ∷ s₁ ∷ s₂ ∷ vint w32 request ∷ s₃ ∷ s₄ ∷ []) Post)
+      → ent 𝓤 (onEntry 𝓤 H A f.signature (κ, (κ₁, (κ₂, (κ₃, tt)))) (q, (q₁, (q₂, (q₃, tt)))) x at) (WpFn 𝓤 H (𝓣 .C) (𝓣 .Λ) code.function (v₀ ∷ s₁ ∷ s₂ ∷ vint w32 request ∷ s₃ ∷ s₄ ∷ []) Post)
   walk 𝓣 known-load known-core =
       let fm = fmOf 𝓤 H (W .laws) 𝓣 in
-      qed W ((‵ (flft κ q) ⊛ ‵ (flft κ₁ q₁) ⊛ rest) ∷ ‵ (owns (ShrRef (named 0) κ Hd ∷ ShrSlice (named 1) κ₁ R ∷ ShrSlice (named 2) κ₂ u64 ∷ u32 ∷ MutSlice (named 3) κ₃ u8 ∷ MutSlice (named 4) κ₄ u8 ∷ []) x at) ∷ []) ∵
+      qed W ((‵ (flft κ q) ⊛ ‵ (flft κ₁ q₁) ⊛ rest) ∷ ‵ (owns (ShrRef (named 0) κ Hd ∷ ShrSlice (named 1) κ₁ R ∷ ShrSlice (named 0) κ u64 ∷ u32 ∷ MutSlice (named 2) κ₂ u8 ∷ MutSlice (named 3) κ₃ u8 ∷ []) x at) ∷ []) ∵
       enter ! (𝓣 .C) (𝓣 .Λ) code.function (v₀ ∷ s₁ ∷ s₂ ∷ vint w32 request ∷ s₃ ∷ s₄ ∷ []) _ $
       alloc1 ! (λ l₀. alloc1 ! (λ l₁. alloc1 ! (λ l₂. alloc1 ! (λ l₃. alloc1 ! (λ l₄. alloc1 ! (λ l₅. alloc1 ! (λ l₆. alloc1 ! (λ l₇. alloc1 ! (λ l₈. alloc1 ! (λ l₉. alloc1 ! (λ l₁₀. alloc1 ! (λ l₁₁. alloc1 ! (λ l₁₂. alloc1 ! (λ l₁₃. alloc1 ! (λ l₁₄. alloc1 ! (λ l₁₅. alloc1 ! (λ l₁₆. alloc0 ! $ params1 ! $
       pass1 ! (init ! 30 refl (tt, tt)) $ pass1 ! (init ! 28 refl (tt, (tt, (record { fits = gn .0 }, tt)))) $ pass1 ! (init ! 26 refl (tt, (tt, (record { fits = gb .0 }, tt)))) $ pass1 ! (init ! 24 refl (tt, record { fits = gr })) $ pass1 ! (init ! 22 refl (tt, (tt, (record { fits = gc .0 }, tt)))) $ pass1 ! (init ! 20 refl (tt, (tt, (record { fits = ga .0 }, tt)))) $ pass0 ! $
@@ -119,7 +119,7 @@ module _ {M : Type 1} (𝓤 : URA M) (H : Heap 𝓤) (A : Atoms 𝓤) (W : Given
       assigns ! (addr ! (from ! (fld ! refl (hop ! (look-in ! 28 (sub ! 0 refl (whole !))) (stop !))))) (from ! (stop !)) (init ! 13 refl (tt, tt)) $ assigns ! (agg ! (and-then ! (load ! (from ! (stop !)) (look ! 13 refl)) (and-then ! (load ! (from ! (fld ! refl (stop !))) (look-in ! 28 (sub ! 1 refl (whole !)))) (no-more !)))) (from ! (stop !)) (init ! 11 refl (tt, (tt, (record { fits = gc .0 }, tt)))) $
       assigns ! (addr ! (from ! (fld ! refl (hop ! (look-in ! 26 (sub ! 0 refl (whole !))) (stop !))))) (from ! (stop !)) (init ! 9 refl (tt, tt)) $ assigns ! (agg ! (and-then ! (load ! (from ! (stop !)) (look ! 9 refl)) (and-then ! (load ! (from ! (fld ! refl (stop !))) (look-in ! 26 (sub ! 1 refl (whole !)))) (no-more !)))) (from ! (stop !)) (init ! 7 refl (tt, (tt, (record { fits = ga .0 }, tt)))) $
       lft-new ! tt (λ ν. move ! (2 ∷ []) $ use1 W (later (some (λ (δ : GName). ‵ (lent-ws ν l₇ δ ws) ⊛ ‵ (flent (ν ∷ []) (Kept (mem Ws) l₇ 0 δ))))) (lends-ref 𝓤 H A W Ws (named 1) (ν ∷ []) ws l₇ 0) $ await ! tt $ pick ! (λ δ. split ! $
-      move ! (8 ∷ []) $ use1 W (‵ held-head ⊛ ‵ held-head) (shr-copy 𝓤 H A W (named 0) κ Hd .twice head (v₀ ∷ [])) $ split ! $ move ! (9 ∷ []) $ fsplit ! $ use1 W (‵ held-beside ⊛ ‵ held-beside) (shr-slice-copy 𝓤 H A W (named 2) κ₂ u64 .twice beside (s₂ ∷ [])) $ split ! $
+      move ! (8 ∷ []) $ use1 W (‵ held-head ⊛ ‵ held-head) (shr-copy 𝓤 H A W (named 0) κ Hd .twice head (v₀ ∷ [])) $ split ! $ move ! (9 ∷ []) $ fsplit ! $ use1 W (‵ held-beside ⊛ ‵ held-beside) (shr-slice-copy 𝓤 H A W (named 0) κ u64 .twice beside (s₂ ∷ [])) $ split ! $
       move ! (0 ∷ 2 ∷ []) $ fjoin ! $ move ! (4 ∷ []) $ fjoin ! $ move ! (5 ∷ 7 ∷ []) $ join ! $ move ! (7 ∷ []) $ join ! $ move ! (0 ∷ 3 ∷ []) $ use3 W (raw (Core 𝓤 H A at-mem run .pre (to-core ν l₇ δ ws))) (goes-core ν l₇ δ ws) $
       calls-at ! fm (Core 𝓤 H A at-mem run) known-core (to-core ν l₇ δ ws) (and-then ! (load ! (from ! (stop !)) (look ! 35 refl)) (and-then ! (load ! (from ! (stop !)) (look ! 16 refl)) (and-then ! (load ! (from ! (stop !)) (look ! 14 refl)) (and-then ! (load ! (from ! (stop !)) (look ! 31 refl)) (and-then ! (load ! (from ! (stop !)) (look ! 29 refl)) (and-then ! (load ! (from ! (stop !)) (look ! 10 refl)) (and-then ! (load ! (from ! (stop !)) (look ! 6 refl)) (no-more !)))))))) (λ w.
       use1 W (later (some (λ (r : ℤ). (tokens ν ⊛ ‵ (i32 .own r (w ∷ []))) ⊛ raw (ensured 𝓤 H A co.ended (co.clauses 𝓤 H A at-mem run) (lives ν) (in-core l₇ δ ws) tt r)))) (id⊢ 𝓤 _) $ await ! tt $ pick ! (λ r. split ! $ move ! (1 ∷ []) $
@@ -137,12 +137,12 @@ module _ {M : Type 1} (𝓤 : URA M) (H : Heap 𝓤) (A : Atoms 𝓤) (W : Given
 module _ {M : Type 1} (𝓤 : URA M) (H : Heap 𝓤) (A : Atoms 𝓤) (W : Given 𝓤 H A) (at-mem : Memory → SProp 𝓤) (run : Routine → Fun 𝓤) (𝓣 : Tables 𝓤 H) (known-load : Triple 𝓤 (𝓣 .C #lent-records·load) (Load 𝓤 H A at-mem run)) (known-core : Triple 𝓤 (𝓣 .C #lent-core·preview) (Core 𝓤 H A at-mem run)) where
   walks : Walks 𝓤 H A f.ended stayed (WpFn 𝓤 H (𝓣 .C) (𝓣 .Λ) code.function) (f.clauses 𝓤 H A at-mem run)
   walks = walked 𝓤 H A f.ended stayed (f.clauses 𝓤 H A at-mem run) (WpFn 𝓤 H (𝓣 .C) (𝓣 .Λ) code.function) (λ κs. (ptr-vals, (slice-vals, (slice-vals, (uint-vals w32, (slice-vals, (slice-vals, tt)))))))
-      (λ κs. (shr-tells (named 0) (κs .0) Hd, (shr-slice-tells (named 1) (κs .1 .0) R, (shr-slice-tells (named 2) (κs .1 .1 .0) u64, (uint-tells w32, (mut-slice-tells (named 3) (κs .1 .1 .1 .0) u8, (mut-slice-tells (named 4) (κs .1 .1 .1 .1 .0) u8, tt)))))))
-      (λ κs qs bounds a g are. via 𝓤 _ (fst∗ 𝓤 _ (emp 𝓤)) (walk 𝓤 H A W at-mem run (κs .0) (κs .1 .0) (κs .1 .1 .0) (κs .1 .1 .1 .0) (κs .1 .1 .1 .1 .0) (qs .0) (qs .1 .0) (qs .1 .1 .0) (qs .1 .1 .1 .0) (qs .1 .1 .1 .1 .0) (a .0) (a .1 .0) (a .1 .1 .0) (a .1 .1 .1 .0) (a .1 .1 .1 .1 .0) (a .1 .1 .1 .1 .1 .0)
+      (λ κs. (shr-tells (named 0) (κs .0) Hd, (shr-slice-tells (named 1) (κs .1 .0) R, (shr-slice-tells (named 0) (κs .0) u64, (uint-tells w32, (mut-slice-tells (named 2) (κs .1 .1 .0) u8, (mut-slice-tells (named 3) (κs .1 .1 .1 .0) u8, tt)))))))
+      (λ κs qs bounds a g are. via 𝓤 _ (fst∗ 𝓤 _ (emp 𝓤)) (walk 𝓤 H A W at-mem run (κs .0) (κs .1 .0) (κs .1 .1 .0) (κs .1 .1 .1 .0) (qs .0) (qs .1 .0) (qs .1 .1 .0) (qs .1 .1 .1 .0) (a .0) (a .1 .0) (a .1 .1 .0) (a .1 .1 .1 .0) (a .1 .1 .1 .1 .0) (a .1 .1 .1 .1 .1 .0)
       (are .1 .0 .0 .1) (are .1 .1 .0 .0 .1) (are .1 .1 .1 .0 .1) (are .1 .1 .1 .1 .0 .0 .1) (are .1 .1 .1 .1 .1 .0 .0 .1) 𝓣 known-load known-core))
 
   meets : Meets 𝓤 H A f.signature (WpFn 𝓤 H (𝓣 .C) (𝓣 .Λ) code.function) (f.spec 𝓤 H A at-mem run)
-  meets = walk-meets 𝓤 H A f.ended stayed W (goes-none-ref 𝓤 H A W 5 (0 ∷ []) tt (plain (λ _. Hd)) yes, (goes-none-slice 𝓤 H A W 5 (1 ∷ []) tt (plain (λ _. R)) yes, (goes-none-slice 𝓤 H A W 5 (2 ∷ []) tt (plain (λ _. u64)) yes, (goes-none 𝓤 H A W 5 (λ _. u32) yes (λ κs x f. refl), (goes-gave-slice 𝓤 H A W 5 3 tt (plain (λ _. u8)), (goes-gave-slice 𝓤 H A W 5 4 tt (plain (λ _. u8)), tt))))))
+  meets = walk-meets 𝓤 H A f.ended stayed W (goes-none-ref 𝓤 H A W 4 (0 ∷ []) tt (plain (λ _. Hd)) yes, (goes-none-slice 𝓤 H A W 4 (1 ∷ []) tt (plain (λ _. R)) yes, (goes-none-slice 𝓤 H A W 4 (0 ∷ []) tt (plain (λ _. u64)) yes, (goes-none 𝓤 H A W 4 (λ _. u32) yes (λ κs x f. refl), (goes-gave-slice 𝓤 H A W 4 2 tt (plain (λ _. u8)), (goes-gave-slice 𝓤 H A W 4 3 tt (plain (λ _. u8)), tt))))))
       (f.clauses 𝓤 H A at-mem run) (WpFn 𝓤 H (𝓣 .C) (𝓣 .Λ) code.function) (WpFn-mono 𝓤 H (W .laws) 𝓣 code.function) walks
 
 pub iommufd-preview-spec : {M : Type 1} → stated.statement M

@@ -24,7 +24,7 @@ cast-record : tie.Need-cast-record
 cast-record c = search needs
 
 record-requires : tie.Need-record-requires
-record-requires c κs = let a = c .before .args in leader-inside (recordsOf (a .ws .now)) (a .mark) (a .i) (a .m) _ (c .if1 .left) (c .before .pre .0)
+record-requires c κs = let a = c .before .args in omega (arith, leader-inside (recordsOf (a .ws .now)) (a .mark) (a .i) (a .m) _ (c .if1 .left) (c .before .pre .0))
 
 differs-requires : tie.Need-differs-requires
 differs-requires c κs = search needs

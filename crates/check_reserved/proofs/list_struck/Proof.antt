@@ -1,4 +1,4 @@
--- Each range of the list is asked of all records.
+-- One search for each range of the list.
 use borrow.Author.Needs.{needs}
 use native.Mathlib.Omega.{arith}
 use Prim.Native.Nat.{_-_, min}
@@ -13,10 +13,10 @@ use Rattle.check_reserved.proofs.list_struck.Statement.{statement}
 use Rattle.check_reserved.proofs.list_struck.Tie as tie
 
 abbrev Inv-loop : tie.InvT-loop
-Inv-loop ws s l n i₀ i = (n ≡ min (l .count) 4) × (length (l .starts) ≡ 4) × (length (l .lasts) ≡ 4) × (any (λ r. any (strikes s r) (recordsOf ws)) (drop i (reserved l)) ≡ any (λ r. any (strikes s r) (recordsOf ws)) (reserved l))
+Inv-loop ws ix n s l many i₀ i = (many ≡ min (l .count) 4) × (length (l .starts) ≡ 4) × (length (l .lasts) ≡ 4) × (any (λ r. any (strikes s r) (recordsOf ws)) (drop i (reserved l)) ≡ any (λ r. any (strikes s r) (recordsOf ws)) (reserved l))
 
 abbrev μ-loop : tie.MeasureT-loop
-μ-loop ws s l n i₀ i = n - i
+μ-loop ws ix n s l many i₀ i = many - i
 
 used-requires : tie.Need-used-requires Inv-loop μ-loop
 used-requires c κs = search needs
@@ -24,23 +24,23 @@ used-requires c κs = search needs
 loop-holds : tie.Need-loop-holds Inv-loop μ-loop
 loop-holds c = (omega (arith, c .used .ensures), search needs, search needs, refl)
 
-mul-t10 : tie.Need-mul-t10 Inv-loop μ-loop
-mul-t10 c = search needs
+mul-t12 : tie.Need-mul-t12 Inv-loop μ-loop
+mul-t12 c = search needs
 
-element-copy-out-t13 : tie.Need-element-copy-out-t13 Inv-loop μ-loop
-element-copy-out-t13 c = search needs
+element-copy-out-t15 : tie.Need-element-copy-out-t15 Inv-loop μ-loop
+element-copy-out-t15 c = search needs
 
-mul-t14 : tie.Need-mul-t14 Inv-loop μ-loop
-mul-t14 c = search needs
+mul-t16 : tie.Need-mul-t16 Inv-loop μ-loop
+mul-t16 c = search needs
 
-element-copy-out-t17 : tie.Need-element-copy-out-t17 Inv-loop μ-loop
-element-copy-out-t17 c = search needs
+element-copy-out-t19 : tie.Need-element-copy-out-t19 Inv-loop μ-loop
+element-copy-out-t19 c = search needs
 
 some-struck-requires : tie.Need-some-struck-requires Inv-loop μ-loop
-some-struck-requires c κs = search needs
+some-struck-requires c κs = c .before .before .before .before .before .before .pre
 
 returns : tie.Need-returns Inv-loop μ-loop
-returns c = list-found (λ r. any (strikes (c .before .before .before .before .before .before .before .args .s) r) (recordsOf (c .before .before .before .before .before .before .before .args .ws .now))) _ _ (c .before .before .before .before .before .loop .i) (c .before .before .before .before .before .loop .inv .0) (c .before .before .before .before .before .loop .inv .1) (c .before .before .before .before .before .loop .inv .2) (c .before .before .before .before .before .loop .inv .3) (omega (arith, c .before .before .before .before .loop-test .taken)) (sym (c .before .some-struck .ensures) ∙ c .if1 .taken)
+returns c = list-found (λ r. any (strikes (c .before .before .before .before .before .before .before .before .args .s) r) (recordsOf (c .before .before .before .before .before .before .before .before .args .ws .now))) _ _ (c .before .before .before .before .before .loop .i) (c .before .before .before .before .before .loop .inv .0) (c .before .before .before .before .before .loop .inv .1) (c .before .before .before .before .before .loop .inv .2) (c .before .before .before .before .before .loop .inv .3) (omega (arith, c .before .before .before .before .loop-test .taken)) (sym (c .before .some-struck .ensures) ∙ c .if1 .taken)
 
 add-i : tie.Need-add-i Inv-loop μ-loop
 add-i c = search needs
@@ -49,10 +49,10 @@ loop-less : tie.Need-loop-less Inv-loop μ-loop
 loop-less c = search needs
 
 loop-again : tie.Need-loop-again Inv-loop μ-loop
-loop-again c = (c .before .before .before .before .before .loop .inv .0, c .before .before .before .before .before .loop .inv .1, c .before .before .before .before .before .loop .inv .2, list-on (λ r. any (strikes (c .before .before .before .before .before .before .before .args .s) r) (recordsOf (c .before .before .before .before .before .before .before .args .ws .now))) _ _ (c .before .before .before .before .before .loop .i) (c .before .before .before .before .before .loop .inv .0) (c .before .before .before .before .before .loop .inv .1) (c .before .before .before .before .before .loop .inv .2) (c .before .before .before .before .before .loop .inv .3) (omega (arith, c .before .before .before .before .loop-test .taken)) (sym (c .before .some-struck .ensures) ∙ c .if1 .left))
+loop-again c = (c .before .before .before .before .before .loop .inv .0, c .before .before .before .before .before .loop .inv .1, c .before .before .before .before .before .loop .inv .2, list-on (λ r. any (strikes (c .before .before .before .before .before .before .before .before .args .s) r) (recordsOf (c .before .before .before .before .before .before .before .before .args .ws .now))) _ _ (c .before .before .before .before .before .loop .i) (c .before .before .before .before .before .loop .inv .0) (c .before .before .before .before .before .loop .inv .1) (c .before .before .before .before .before .loop .inv .2) (c .before .before .before .before .before .loop .inv .3) (omega (arith, c .before .before .before .before .loop-test .taken)) (sym (c .before .some-struck .ensures) ∙ c .if1 .left))
 
 returns-2 : tie.Need-returns-2 Inv-loop μ-loop
-returns-2 c = list-end (λ r. any (strikes (c .before .before .before .args .s) r) (recordsOf (c .before .before .before .args .ws .now))) _ _ (c .before .loop .i) (c .before .loop .inv .0) (c .before .loop .inv .1) (c .before .loop .inv .2) (c .before .loop .inv .3) (omega (arith, c .loop-test .left))
+returns-2 c = list-end (λ r. any (strikes (c .before .before .before .before .args .s) r) (recordsOf (c .before .before .before .before .args .ws .now))) _ _ (c .before .loop .i) (c .before .loop .inv .0) (c .before .loop .inv .1) (c .before .loop .inv .2) (c .before .loop .inv .3) (omega (arith, c .loop-test .left))
 
 pub list-struck-spec : {M : Type 1} → statement M
 list-struck-spec =
@@ -62,10 +62,10 @@ list-struck-spec =
     μ-loop
     used-requires
     loop-holds
-    mul-t10
-    element-copy-out-t13
-    mul-t14
-    element-copy-out-t17
+    mul-t12
+    element-copy-out-t15
+    mul-t16
+    element-copy-out-t19
     some-struck-requires
     returns
     add-i

@@ -12,7 +12,7 @@ is-attached-requires : tie.Need-is-attached-requires
 is-attached-requires c κs = search needs
 
 returns : tie.Need-returns
-returns c = slot-loose _ (recordsOf (c .before .before .before .args .ws .now)) _ _ (c .before .before .kind-at .ensures) (c .before .is-attached .ensures) (c .if1 .taken)
+returns c = slot-loose _ (recordsOf (c .before .before .before .before .args .ws .now)) _ _ (c .before .before .kind-at .ensures) (c .before .is-attached .ensures) (c .if1 .taken)
 
 home-of-requires : tie.Need-home-of-requires
 home-of-requires c κs = search needs
@@ -24,7 +24,7 @@ list-struck-requires : tie.Need-list-struck-requires
 list-struck-requires c κs = search needs
 
 returns-2 : tie.Need-returns-2
-returns-2 c = slot-attached _ (recordsOf (c .before .before .before .before .before .before .args .ws .now)) _ _ (c .before .before .before .before .before .kind-at .ensures) (c .before .before .before .before .is-attached .ensures) _ _ _ (c .before .before .before .if1 .left) (c .before .before .home-of .ensures) (c .before .reserved-at .ensures) (c .list-struck .ensures)
+returns-2 c = slot-attached _ (recordsOf (c .before .before .before .before .before .before .before .args .ws .now)) _ _ (c .before .before .before .before .before .kind-at .ensures) (c .before .before .before .before .is-attached .ensures) _ _ _ (c .before .before .before .if1 .left) (c .before .before .home-of .ensures) (c .before .reserved-at .ensures) (c .list-struck .ensures)
 
 pub slot-clear-spec : {M : Type 1} → statement M
 slot-clear-spec =

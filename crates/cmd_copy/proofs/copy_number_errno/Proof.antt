@@ -1,5 +1,5 @@
 -- Check by check.
-use Rattle.cmd_copy.proofs.Copying.{numbers-are}
+use Rattle.cmd_copy.proofs.Copying.{numbers-are, both-known}
 use borrow.Author.Needs.{needs}
 use Rattle.cmd_copy.proofs.copy_number_errno.Statement.{statement}
 use Rattle.cmd_copy.proofs.copy_number_errno.Tie as tie
@@ -41,7 +41,7 @@ refuse-if-requires-7 : tie.Need-refuse-if-requires-7
 refuse-if-requires-7 c κs = search needs
 
 returns : tie.Need-returns
-returns c = λ os source k l. numbers-are os _ _ _ _ _ _ _ _ _ _ _ _ _ _ _ _ _ _ _ _ (c .before .before .before .before .before .before .before .before .before .before .before .has-unknown .ensures) (c .before .before .before .before .before .before .before .before .before .before .has-no-right .ensures) (c .before .before .before .before .before .before .before .before .before .is-wrong-length .ensures) (c .before .before .before .before .before .before .before .before .passes-max .ensures) (c .before .before .before .before .before .before .before .fixed-passes .ensures) k l (c .before .before .before .before .before .before .refuse-if .ensures) (c .before .before .before .before .before .refuse-if2 .ensures) (c .before .before .before .before .refuse-if3 .ensures) (c .before .before .before .refuse-if4 .ensures) (c .before .before .refuse-if5 .ensures) (c .before .refuse-if6 .ensures) (c .refuse-if7 .ensures)
+returns c = (λ os source k l. numbers-are os _ _ _ _ _ _ _ _ _ _ _ _ _ _ _ _ _ _ _ _ (c .before .before .before .before .before .before .before .before .before .before .before .has-unknown .ensures) (c .before .before .before .before .before .before .before .before .before .before .has-no-right .ensures) (c .before .before .before .before .before .before .before .before .before .is-wrong-length .ensures) (c .before .before .before .before .before .before .before .before .passes-max .ensures) (c .before .before .before .before .before .before .before .fixed-passes .ensures) k l (c .before .before .before .before .before .before .refuse-if .ensures) (c .before .before .before .before .before .refuse-if2 .ensures) (c .before .before .before .before .refuse-if3 .ensures) (c .before .before .before .refuse-if4 .ensures) (c .before .before .refuse-if5 .ensures) (c .before .refuse-if6 .ensures) (c .refuse-if7 .ensures), both-known _ _ _ _ _ _ _ _ _ _ _ _ _ _ (c .before .before .before .before .before .before .refuse-if .ensures) (c .before .before .before .before .before .refuse-if2 .ensures) (c .before .before .before .before .refuse-if3 .ensures) (c .before .before .before .refuse-if4 .ensures) (c .before .before .refuse-if5 .ensures) (c .before .refuse-if6 .ensures) (c .refuse-if7 .ensures))
 
 pub copy-number-errno-spec : {M : Type 1} → statement M
 copy-number-errno-spec =

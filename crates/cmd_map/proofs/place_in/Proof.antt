@@ -28,7 +28,7 @@ place-fixed-requires : tie.Need-place-fixed-requires
 place-fixed-requires c κs = search needs
 
 returns : tie.Need-returns
-returns c = λ e. let a = (c .before .before .before .before .before .before .args) in let os = objectsIn (a .h .now) in let ms = recordsOf (a .ws .now) in ((c .place-fixed .ensures)) os ms (sym ((c .before .before .before .before .before .is-fixed .ensures)) ∙ (c .before .before .before .before .if1 .taken)) e (((c .before .before .is-touched .ensures)) ∙ ap (λ (r : Range). any (share r) (reservedOf os (a .t .space))) ((c .before .before .before .span-of .ensures))) (touched-is ms _ _ _ _ _ ((c .before .before .before .span-of .ensures)) (c .before .is-taken .ensures))
+returns c = λ e. let a = (c .before .before .before .before .before .before .before .args) in let os = objectsIn (a .h .now) in let ms = recordsOf (a .ws .now) in ((c .place-fixed .ensures)) os ms (sym ((c .before .before .before .before .before .is-fixed .ensures)) ∙ (c .before .before .before .before .if1 .taken)) e (((c .before .before .is-touched .ensures)) ∙ ap (λ (r : Range). any (share r) (reservedOf os (a .t .space))) ((c .before .before .before .span-of .ensures))) (touched-is ms _ _ _ _ _ ((c .before .before .before .span-of .ensures)) (c .before .is-taken .ensures))
 
 object-of-requires : tie.Need-object-of-requires
 object-of-requires c κs = search needs
@@ -37,7 +37,7 @@ place-automatic-requires : tie.Need-place-automatic-requires
 place-automatic-requires c κs = search needs
 
 returns-2 : tie.Need-returns-2
-returns-2 c = λ e. ((c .place-automatic .ensures)) (sym ((c .before .before .before .before .is-fixed .ensures)) ∙ (c .before .before .before .if1 .left)) e (ap (λ (o : Object). o .allow) (c .before .before .object-of .ensures))
+returns-2 c = λ e. ((c .place-automatic .ensures)) (c .before .before .before .before .before .before .pre .1) (sym ((c .before .before .before .before .is-fixed .ensures)) ∙ (c .before .before .before .if1 .left)) e (ap (λ (o : Object). o .allow) (c .before .before .object-of .ensures))
 
 pub place-in-spec : {M : Type 1} → statement M
 place-in-spec =

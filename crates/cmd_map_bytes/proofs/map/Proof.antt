@@ -1,3 +1,4 @@
+use native.Mathlib.Omega.{arith}
 -- The fields read, decided and replied.
 use mathlib.Core.Path.{sym, ap, _∙_}
 use Rattle.table.specs.Checked.{pageAt}
@@ -26,16 +27,16 @@ read64-requires-3 : tie.Need-read64-requires-3
 read64-requires-3 c κs = search needs
 
 decide-map-requires : tie.Need-decide-map-requires
-decide-map-requires c κs = search needs
+decide-map-requires c κs = let a = c .before .before .before .before .before .before .before .before .before .before .before .before .before .before .before in (a .pre .1, a .pre .2, a .pre .3, λ h. omega (arith, c .before .before .before .before .before .before .before .before .before .before .read32 .ensures, a .pre .4 h), a .pre .5)
 
 write-value-requires : tie.Need-write-value-requires
-write-value-requires c κs = search needs
+write-value-requires c κs = let a = c .before .before .before .before .before .before .before .before .before .before .before .before .before .before .before .before .before in omega (arith, a .pre .0)
 
 same-length : tie.Need-same-length
 same-length c = search needs
 
 returns : tie.Need-returns
-returns c = (λ e. map-fields _ _ _ _ _ _ _ _ _ _ _ (c .before .before .before .before .before .before .before .before .before .before .before .before .before .before .before .read32 .ensures) (c .before .before .before .before .before .before .before .before .before .before .before .before .before .read322 .ensures) (c .before .before .before .before .before .before .before .before .before .before .before .read64 .ensures) (c .before .before .before .before .before .before .before .before .before .read642 .ensures) (c .before .before .before .before .before .before .before .read323 .ensures) (c .before .before .before .before .before .read643 .ensures) ((c .before .before .before .before .decide-map .ensures) (e ∙ ap (pageAt (objectsIn ((c .before .before .before .before .before .before .before .before .before .before .before .before .before .before .before .before .before .before .before .args) .h .now))) (sym (c .before .before .before .before .before .before .before .before .before .before .before .before .before .before .before .read32 .ensures)))), (c .before .before .write-value .ensures))
+returns c = (λ e. map-fields _ _ _ _ _ _ _ _ _ _ _ (c .before .before .before .before .before .before .before .before .before .before .before .before .before .before .before .read32 .ensures) (c .before .before .before .before .before .before .before .before .before .before .before .before .before .read322 .ensures) (c .before .before .before .before .before .before .before .before .before .before .before .read64 .ensures) (c .before .before .before .before .before .before .before .before .before .read642 .ensures) (c .before .before .before .before .before .before .before .read323 .ensures) (c .before .before .before .before .before .read643 .ensures) ((c .before .before .before .before .decide-map .ensures) (e ∙ ap (pageAt (objectsIn ((c .before .before .before .before .before .before .before .before .before .before .before .before .before .before .before .before .before .before .before .before .args) .h .now))) (sym (c .before .before .before .before .before .before .before .before .before .before .before .before .before .before .before .read32 .ensures)))), (c .before .before .write-value .ensures))
 
 pub map-spec : {M : Type 1} → statement M
 map-spec =

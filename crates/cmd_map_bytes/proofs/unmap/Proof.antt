@@ -1,3 +1,4 @@
+use native.Mathlib.Omega.{arith}
 -- The fields read, decided and replied.
 use mathlib.Core.Path.{sym, ap, _∙_}
 use Rattle.rules_table.specs.Records.{spaceAt}
@@ -16,7 +17,7 @@ read64-requires-2 : tie.Need-read64-requires-2
 read64-requires-2 c κs = search needs
 
 decide-unmap-requires : tie.Need-decide-unmap-requires
-decide-unmap-requires c κs = search needs
+decide-unmap-requires c κs = let a = c .before .before .before .before .before .before .before .before in (a .pre .1, λ h. omega (arith, c .before .before .before .before .read32 .ensures, a .pre .2 h), a .pre .3)
 
 write-value-requires : tie.Need-write-value-requires
 write-value-requires c κs = search needs

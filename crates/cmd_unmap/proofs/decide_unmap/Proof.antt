@@ -1,6 +1,6 @@
 -- The numbers or the mappings refused, or the mappings inside go.
-use Rattle.scan.specs.Removed.{records-short}
-use Rattle.cmd_unmap.proofs.Unmapping.{by-numbers, by-removal, by-clearing}
+use Rattle.index_search.specs.Removed.{records-short}
+use Rattle.cmd_unmap.proofs.Unmapping.{is-known, asked-some, by-numbers, by-removal, by-clearing}
 use borrow.Author.Needs.{needs}
 use Rattle.cmd_unmap.proofs.decide_unmap.Statement.{statement}
 use Rattle.cmd_unmap.proofs.decide_unmap.Tie as tie
@@ -18,7 +18,9 @@ range-asked-requires : tie.Need-range-asked-requires
 range-asked-requires c κs = search needs
 
 removal-of-requires : tie.Need-removal-of-requires
-removal-of-requires c κs = (c .before .before .before .pre .0, records-short (c .before .before .before .pre .1 .0) _ (c .before .before .before .pre .1 .1))
+removal-of-requires c κs =
+    let a = c .before .before .before .before in
+    (a .pre .0, a .pre .1 (is-known (a .args .known) (a .args .a) (a .args .n) _ (c .before .before .unmap-number-errno .ensures) (c .before .if1 .left)), asked-some (a .args .a) (a .args .n) _ (c .range-asked .ensures) (search needs), records-short (a .pre .2 .0) _ (a .pre .2 .1))
 
 asks-all-requires : tie.Need-asks-all-requires
 asks-all-requires c κs = search needs

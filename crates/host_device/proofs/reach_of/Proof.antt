@@ -4,8 +4,8 @@ use mathlib.Core.Path.{ap, _∙_}
 use Rattle.ranges.specs.declared.Range.{Range}
 use Rattle.rules_calls.specs.Reach.{around}
 use Rattle.layout_mappings.specs.Words.{recordsOf}
-use Rattle.host_device.specs.Held.{held}
-use Rattle.host_device.proofs.Reaching.{reach-refused, reach-nowhere, reach-found, around-fits}
+use Rattle.index_search.specs.Sourced.{sourced}
+use Rattle.host_device.proofs.Reaching.{home-pos, asked-some, reach-refused, reach-nowhere, reach-found, around-fits}
 use borrow.Author.Needs.{needs}
 use Rattle.host_device.proofs.reach_of.Statement.{statement}
 use Rattle.host_device.proofs.reach_of.Tie as tie
@@ -26,7 +26,7 @@ span-of-requires : tie.Need-span-of-requires
 span-of-requires c κs = search needs
 
 find-around-requires : tie.Need-find-around-requires
-find-around-requires c κs = search needs
+find-around-requires c κs = let a = c .before .before .before .before .before in (a .pre .0, home-pos (a .args .o .kind) (a .args .a) (a .args .n) _ _ (c .before .before .before .reach-errno .ensures) (c .before .before .if1 .left) (c .before .home-of .ensures) (a .pre .1), asked-some (a .args .a) (a .args .n) _ (c .span-of .ensures) (search needs))
 
 enum-known-f : tie.Need-enum-known-f
 enum-known-f c = search needs
@@ -41,7 +41,7 @@ returns-2 : tie.Need-returns-2
 returns-2 c = λ os d e. c .refusal2 .ensures ∙ reach-nowhere os _ d _ _ _ _ e _ (c .before .before .before .before .before .before .before .reach-errno .ensures) _ _ _ (omega arith) (c .before .before .before .before .before .home-of .ensures) (c .before .before .before .before .span-of .ensures) (c .before .before .before .find-around .ensures) (c .before .enum-told .given .1)
 
 reach-in-requires : tie.Need-reach-in-requires
-reach-in-requires c κs = let s = c .before .before .before .before .before .before .before .before in around-fits (s .pre .0) _ _ _ _ _ (c .before .before .before .find-around .ensures ∙ ap (λ (r : Range). held (around (recordsOf (s .args .ws .now)) (c .before .before .before .before .before .home-of .result) r)) (c .before .before .before .before .span-of .ensures)) _ (c .before .f .given .1) (omega arith) (s .pre .1)
+reach-in-requires c κs = let s = c .before .before .before .before .before .before .before .before .before in around-fits (s .pre .2 .0) _ _ _ _ _ (c .before .before .before .find-around .ensures ∙ ap (λ (r : Range). sourced (around (recordsOf (s .args .ws .now)) (c .before .before .before .before .before .home-of .result) r)) (c .before .before .before .before .span-of .ensures)) _ (c .before .f .given .1) (omega arith) (s .pre .2 .1)
 
 returns-3 : tie.Need-returns-3
 returns-3 c = λ os d e. reach-found os _ d _ _ _ _ e _ (c .before .before .before .before .before .before .before .before .reach-errno .ensures) _ _ _ (omega arith) (c .before .before .before .before .before .before .home-of .ensures) (c .before .before .before .before .before .span-of .ensures) (c .before .before .before .before .find-around .ensures) _ _ (c .before .before .f .given .1) (c .reach-in .ensures)

@@ -11,7 +11,7 @@ automatic-place-requires : tie.Need-automatic-place-requires
 automatic-place-requires c κs = search needs
 
 returns : tie.Need-returns
-returns c = λ f ea el. automatic-placed (objectsIn (c .before .args .h .now)) (recordsOf (c .before .args .ws .now)) _ _ _ refl f (c .automatic-place .ensures ea el)
+returns c = λ h f ea el. automatic-placed (objectsIn (c .before .before .args .h .now)) (recordsOf (c .before .before .args .ws .now)) _ _ _ refl f (c .automatic-place .ensures h ea el)
 
 pub place-automatic-spec : {M : Type 1} → statement M
 place-automatic-spec = tie.close (tie.spec automatic-place-requires returns)

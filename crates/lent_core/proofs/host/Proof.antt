@@ -17,8 +17,11 @@ slice-read-fresh c = search needs
 fresh-requires : tie.Need-fresh-requires
 fresh-requires c κs = search needs
 
+same-length : tie.Need-same-length
+same-length c = search needs
+
 returns-2 : tie.Need-returns-2
-returns-2 c = host-fresh _ _ _ _ _ _ _ _ (omega arith) (omega arith) (c .fresh .ensures)
+returns-2 c = host-fresh _ _ _ _ _ _ _ _ _ (omega arith) (omega arith) (c .before .before .fresh .ensures)
 
 refused-requires-2 : tie.Need-refused-requires-2
 refused-requires-2 c κs = search needs
@@ -32,8 +35,8 @@ order-in-requires c κs = search needs
 refused-requires-3 : tie.Need-refused-requires-3
 refused-requires-3 c κs = search needs
 
-same-length : tie.Need-same-length
-same-length c = search needs
+same-length-2 : tie.Need-same-length-2
+same-length-2 c = search needs
 
 returns-4 : tie.Need-returns-4
 returns-4 c = host-bad _ _ _ _ _ _ _ (omega arith) (λ x. omega (arith, x)) (c .before .before .order-in .ensures) _ _ (λ x. omega (arith, x))
@@ -51,12 +54,15 @@ commit-requires c κs = search needs
 answer-requires : tie.Need-answer-requires
 answer-requires c κs = search needs
 
-same-length-2 : tie.Need-same-length-2
-same-length-2 c = search needs
+same-length-3 : tie.Need-same-length-3
+same-length-3 c = search needs
+
+same-length-4 : tie.Need-same-length-4
+same-length-4 c = search needs
 
 returns-5 : tie.Need-returns-5
 returns-5 c = host-done _ _ _ _ _ _ _ (omega arith) (λ x. omega (arith, x))
-    (c .before .before .before .before .before .before .before .before .before .before .before .order-in .ensures) _ _ _ _ (omega arith)
+    (c .before .before .before .before .before .before .before .before .before .before .before .before .order-in .ensures) _ _ _ _ (omega arith)
     (c .before .before .before .before .before .before .before .decide-host .ensures) (c .answer .ensures) (c .before .commit .ensures)
     (c .before .before .before .before .before .tell .ensures)
 
@@ -68,16 +74,18 @@ host-spec =
     returns
     slice-read-fresh
     fresh-requires
+    same-length
     returns-2
     refused-requires-2
     returns-3
     order-in-requires
     refused-requires-3
-    same-length
+    same-length-2
     returns-4
     decide-host-requires
     tell-requires
     commit-requires
     answer-requires
-    same-length-2
+    same-length-3
+    same-length-4
     returns-5)

@@ -1,6 +1,5 @@
--- By the kind.
 use native.Mathlib.Omega.{arith}
-use Rattle.lent_core.specs.Orders.{is-bind, is-attach, is-detach, is-reach, is-charge}
+use Rattle.lent_core.specs.Orders.{is-next, is-bind, is-attach, is-detach, is-reach, is-charge}
 use borrow.Author.Needs.{needs}
 use Rattle.lent_core.proofs.order_in.Statement.{statement}
 use Rattle.lent_core.proofs.order_in.Tie as tie
@@ -74,6 +73,26 @@ charge-order-requires c κs = search needs
 returns-5 : tie.Need-returns-5
 returns-5 c = is-charge _ _ _ (omega arith) cc
 
+-- src/lib.rt:244:32
+shared-slice-read-low-5 : tie.Need-shared-slice-read-low-5
+shared-slice-read-low-5 c = search needs
+
+-- src/lib.rt:244:28
+low-requires-5 : tie.Need-low-requires-5
+low-requires-5 c κs = search needs
+
+-- src/lib.rt:244:43
+shared-slice-read-next-order : tie.Need-shared-slice-read-next-order
+shared-slice-read-next-order c = search needs
+
+-- src/lib.rt:244:5
+next-order-requires : tie.Need-next-order-requires
+next-order-requires c κs = search needs
+
+-- src/lib.rt:225:1
+returns-6 : tie.Need-returns-6
+returns-6 c = is-next _ _ _ (omega arith) cc
+
 pub order-in-spec : {M : Type 1} → statement M
 order-in-spec =
     tie.close
@@ -100,4 +119,9 @@ order-in-spec =
     reach-order-requires
     returns-4
     charge-order-requires
-    returns-5)
+    returns-5
+    shared-slice-read-low-5
+    low-requires-5
+    shared-slice-read-next-order
+    next-order-requires
+    returns-6)

@@ -25,8 +25,7 @@ same-length-2 : tie.Need-same-length-2
 same-length-2 c = search needs
 
 returns-2 : tie.Need-returns-2
-returns-2 c = preview-done _ _ _ _ _ _ _ _ _ _ _ (omega arith) (c .before .before .before .before .before .decide .ensures)
-    (search needs ∙ c .signed-result2 .ensures)
+returns-2 c = preview-done _ _ _ _ _ _ _ _ _ _ _ (omega arith) (c .before .before .before .before .before .decide .ensures) (search needs ∙ c .signed-result2 .ensures)
 
 pub preview-spec : {M : Type 1} → statement M
 preview-spec =

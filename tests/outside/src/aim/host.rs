@@ -83,6 +83,18 @@ impl Aim<'_> {
         Call::Reach { device, address, length, write }
     }
 
+    /// At an end of a mapping or just beside it, inside, or anywhere. The space is one that there is, most often.
+    pub fn next_mapping(&mut self) -> Call {
+        let space = self.space();
+        let mapped = self.sight.mappings(space);
+        let one = if mapped.is_empty() { Mapping::default() } else { *self.dice.one_of(&mapped) };
+        let inside = one.address.wrapping_add(self.dice.roll() % one.length.max(1));
+        let near = [one.address, one.address.wrapping_sub(1), last(&one), last(&one), last(&one).wrapping_add(1), last(&one).wrapping_add(1), inside];
+        let anywhere = [self.address(space), self.in_world(), self.dice.roll(), 0, 0, TOP];
+        let address = if self.dice.chance(3) { self.dice.one_of(&anywhere) } else { self.dice.one_of(&near) };
+        Call::Next { space, address }
+    }
+
     fn part_to_reach(&mut self, space: u32, one: Mapping) -> (u64, u64) {
         let within = self.dice.roll() % one.length.max(1);
         let rest = one.length.wrapping_sub(within);

@@ -37,6 +37,7 @@ pub const ATTACH: Name = Name("attach");
 pub const DETACH: Name = Name("detach");
 pub const REACH: Name = Name("reach");
 pub const CHARGE: Name = Name("charge");
+pub const NEXT: Name = Name("next");
 
 impl Name {
     pub fn check(self, errno: i32, rule: &'static str) -> Check {
@@ -171,7 +172,7 @@ const ALL: &[(Name, &[Rules])] = &[
     (IOAS_ALLOC, &[OPENING, &[(95, "flags not 0"), (12, "no free object record")], DONE]),
     (DESTROY, &[OPENING, &[(2, "no such object"), (16, "an attached device"), (16, "a space with an attached device")], DONE]),
     (UNKNOWN, &[BAD_TABLE, &[(25, "unknown request")]]),
-    (FRESH, &[&[(117, "the mapping records are not 128"), (22, "limit above 2^36")], DONE]),
+    (FRESH, &[&[(117, "the mapping records are not 128"), (117, "the words of the index are not 128"), (22, "limit above 2^36")], DONE]),
     (
         BIND,
         &[
@@ -219,6 +220,7 @@ const ALL: &[(Name, &[Rules])] = &[
         ],
     ),
     (CHARGE, &[BAD_TABLE, DONE]),
+    (NEXT, &[BAD_TABLE, &[(2, "no such space"), (0, "done, none"), (0, "done, found")]]),
 ];
 
 /// Every check that some call reaches, each call's in the paper's order.

@@ -1,13 +1,15 @@
-//! A fresh table, the four host calls and the charge, with their checks in the paper's order after 117.
-use super::checks::{Answer, ATTACH, BIND, CHARGE, DETACH, FRESH, REACH};
-use super::table::{has_other_than_128_records, list, lowest_bit, Device, Object, Range, Table, HIGHEST_LIMIT, MOST_RESERVED, PAGE};
+//! A fresh table, the four host calls, the charge and the next mapping, with their checks in the paper's order after 117.
+use super::checks::{Answer, ATTACH, BIND, CHARGE, DETACH, FRESH, NEXT, REACH};
+use super::table::{has_other_than_128_records, has_other_than_128_words, list, lowest_bit, Device, Object, Range, Table};
+use super::table::{HIGHEST_LIMIT, MOST_RESERVED, PAGE};
 use crate::calls::Lent;
 use iommufd::raw::Reserved;
 
-/// What the memory held plays no part.
+/// What the memory held plays no part, the index neither.
 pub fn fresh(lent: &mut Lent, limit: u64) -> Answer {
     let limit = u128::from(limit);
     FRESH.refuse(has_other_than_128_records(lent), 117, "the mapping records are not 128")?;
+    FRESH.refuse(has_other_than_128_words(lent), 117, "the words of the index are not 128")?;
     FRESH.refuse(limit > HIGHEST_LIMIT, 22, "limit above 2^36")?;
     Table::empty(limit).store(lent);
     FRESH.done("done")
@@ -72,4 +74,15 @@ pub fn reach(table: &Table, id: u32, address: u64, length: u64, write: bool) -> 
 /// The table's charge beside 0.
 pub fn charge(table: &Table) -> Answer {
     CHARGE.give(0, table.charge() as u64, "done")
+}
+
+/// Of the space's mappings that end at or after the address, the number of the one with the lowest address; 0 for none.
+pub fn next(table: &Table, space: u32, address: u64) -> Answer {
+    let address = u128::from(address);
+    NEXT.refuse(!table.is_space(space), 2, "no such space")?;
+    let ending = table.records().filter(|(_, mapping)| mapping.space == space && mapping.addresses().last >= address);
+    match ending.min_by_key(|(_, mapping)| mapping.address) {
+        Some((number, _)) => NEXT.give(0, number, "done, found"),
+        None => NEXT.give(0, 0, "done, none"),
+    }
 }

@@ -1,4 +1,5 @@
-//! The table of document 01 as plain data: how it lies in the lent memory, what the paper says of it, and when it is bad.
+//! The table of document 01 as plain data, with the index that document 02's L9 keeps beside it: how they lie in the lent memory, what the papers say of them, and when
+//! the table is bad.
 use crate::calls::Lent;
 use iommufd::raw;
 
@@ -10,6 +11,7 @@ pub const HIGHEST_LIMIT: u128 = 1 << 36;
 pub const MOST_RESERVED: u32 = 4;
 pub const MOST_ALLOWED: u32 = 8;
 const MAPPINGS: usize = 128;
+const INDEX_WORDS: usize = 128;
 const HIGHEST_BACKING: u32 = 128;
 
 /// Addresses with an inclusive last one.
@@ -115,9 +117,11 @@ pub struct Table {
     pub objects: Vec<Object>,
     /// A released record is `None`.
     pub mappings: Vec<Option<Mapping>>,
+    /// The words of the index. A table whose index is not the agreeing one is bad.
+    pub index: Vec<u64>,
 }
 
-// ---- what the paper says of a table
+// ---- what the papers say of a table
 
 impl Table {
     /// The object with this id; ids outside 1 to 32 name none.
@@ -185,6 +189,38 @@ impl Table {
 
     pub fn mappings_of(&self, space: u32) -> impl Iterator<Item = &Mapping> {
         self.mapped().filter(move |mapping| mapping.space == space)
+    }
+
+    /// The mappings that exist, each with the number of its record, from 1.
+    pub fn records(&self) -> impl Iterator<Item = (u64, &Mapping)> {
+        (1..).zip(&self.mappings).filter_map(|(number, record)| Some((number, record.as_ref()?)))
+    }
+
+    /// For each space, its mapping records in ascending address: one list for all spaces, by space and then by address (L9a). A record is named by its number from 1,
+    /// and zeros fill the words behind the last.
+    pub fn agreeing(&self) -> Vec<u64> {
+        let mut used = self.records().collect::<Vec<_>>();
+        used.sort_by_key(|(_, mapping)| (mapping.space, mapping.address));
+        let mut words = used.into_iter().map(|(number, _)| number).collect::<Vec<u64>>();
+        words.resize(INDEX_WORDS, 0);
+        words
+    }
+
+    /// The numbers that the index lists: its words that are not 0.
+    fn listed(&self) -> Vec<u64> {
+        self.index.iter().copied().filter(|number| *number != 0).collect()
+    }
+
+    /// The mapping in the record that has a number from 1 on; none in a released one, and no other number has one.
+    fn numbered(&self, number: u64) -> Option<&Mapping> {
+        let record = usize::try_from(number).ok()?.checked_sub(1)?;
+        self.mappings.get(record)?.as_ref()
+    }
+
+    /// The mappings that the index lists, each with the one behind it.
+    fn neighbours(&self) -> Vec<(&Mapping, &Mapping)> {
+        let mappings = self.listed().into_iter().filter_map(|number| self.numbered(number)).collect::<Vec<_>>();
+        mappings.windows(2).map(|two| (two[0], two[1])).collect()
     }
 
     /// Alignment of a space: the highest of its devices' smallest pages, 1 with no device.
@@ -321,7 +357,7 @@ fn store_mapping(mapping: &Option<Mapping>) -> raw::Mapping {
 
 impl Table {
     pub fn empty(limit: u128) -> Table {
-        Table { limit, objects: vec![Object::Free; 32], mappings: vec![None; MAPPINGS] }
+        Table { limit, objects: vec![Object::Free; 32], mappings: vec![None; MAPPINGS], index: vec![0; INDEX_WORDS] }
     }
 
     fn read(lent: &Lent) -> Table {
@@ -329,6 +365,7 @@ impl Table {
             limit: lent.head.limit.into(),
             objects: lent.head.objects.iter().map(read_object).collect(),
             mappings: lent.mappings.iter().map(read_mapping).collect(),
+            index: lent.index.clone(),
         }
     }
 
@@ -340,6 +377,7 @@ impl Table {
         for (place, mapping) in lent.mappings.iter_mut().zip(&self.mappings) {
             *place = store_mapping(mapping);
         }
+        lent.index.clone_from(&self.index);
     }
 }
 
@@ -363,6 +401,9 @@ fn is_unused_place_not_zero(count: u32, starts: &[u64], lasts: &[u64]) -> bool {
 /// What makes a table bad in the lent memory itself: numbers that no table in plain data stands for.
 const LENT_RULES: &[Rule<Lent>] = &[
     ("the mapping records are not 128", |lent| has_other_than_128_records(lent)),
+    ("no index is lent", |lent| lent.index.is_empty()),
+    ("the index has fewer than 128 words", |lent| (1..INDEX_WORDS).contains(&lent.index.len())),
+    ("the index has more than 128 words", |lent| lent.index.len() > INDEX_WORDS),
     ("an object record is neither free, a space nor a device", |lent| lent.head.objects.iter().any(|object| object.kind > ATTACHED)),
     ("a free object record is not zero", |lent| of_kind(lent, FREE).any(|object| *object != raw::Object::default())),
     ("a field that a space does not use is not zero", |lent| {
@@ -434,10 +475,37 @@ const TABLE_RULES: &[Rule<Table>] = &[
     ("mappings of one backing differ in the founding right to write", |table| differs(table, |mapping| mapping.founder_write.into())),
     ("a mapping may write without the founding right", |table| table.mapped().any(|mapping| mapping.write && !mapping.founder_write)),
     ("the limit is below the charge", |table| table.limit < table.charge()),
+    // An index that breaks none of these is the agreeing one, which the tests try.
+    ("the index has a number past 128", |table| table.index.iter().any(|number| *number > MAPPINGS as u64)),
+    ("the index has a number behind a zero", |table| table.index.windows(2).any(|two| two[0] == 0 && two[1] != 0)),
+    ("the index lists a released record", |table| {
+        table.listed().iter().any(|number| *number <= MAPPINGS as u64 && table.numbered(*number).is_none())
+    }),
+    ("the index lists a record twice", |table| {
+        let listed = table.listed();
+        listed.iter().enumerate().any(|(k, number)| listed[..k].contains(number))
+    }),
+    ("the index misses a mapping", |table| {
+        let listed = table.listed();
+        (1..).zip(&table.mappings).any(|(number, record)| record.is_some() && !listed.contains(&number))
+    }),
+    ("the index has the spaces out of order", |table| table.neighbours().iter().any(|(one, next)| one.space > next.space)),
+    ("the index has the addresses of a space out of order", |table| {
+        table.neighbours().iter().any(|(one, next)| one.space == next.space && one.address > next.address)
+    }),
 ];
 
 pub fn has_other_than_128_records(lent: &Lent) -> bool {
     lent.mappings.len() != MAPPINGS
+}
+
+pub fn has_other_than_128_words(lent: &Lent) -> bool {
+    lent.index.len() != INDEX_WORDS
+}
+
+/// The index that agrees with the mapping records, whatever else the memory holds.
+pub fn agreeing_index(lent: &Lent) -> Vec<u64> {
+    Table::read(lent).agreeing()
 }
 
 /// Some mapping has this field different from another of its backing. Being equal to one of them is being equal to all.

@@ -1,4 +1,5 @@
-//! The model against the numbers that document 01 gives itself, the places where its words are easily misread, and small tables searched address by address.
+//! The model against the numbers that document 01 gives itself, the places where its words are easily misread, small tables searched address by address, and every
+//! index of a small table.
 use super::{bad, bad_rules, checks, judge, Check};
 use crate::calls::{Call, Lent};
 use iommufd::raw::{Mapping, Number, Object, Reserved};
@@ -50,6 +51,24 @@ fn list(ranges: &[(u64, u64)]) -> Reserved {
     list
 }
 
+/// The index, by looking for the next mapping of each space again and again.
+fn index_by_hand(lent: &Lent) -> Vec<u64> {
+    let mut index = vec![];
+    for space in 1..=32 {
+        let mut from = 0;
+        let next = |from: u128| {
+            let behind = (1..).zip(&lent.mappings).filter(|(_, mapping)| mapping.space == space && u128::from(mapping.address) >= from);
+            behind.min_by_key(|(_, mapping)| mapping.address)
+        };
+        while let Some((number, mapping)) = next(from) {
+            index.push(number);
+            from = u128::from(mapping.address) + 1;
+        }
+    }
+    index.resize(128, 0);
+    index
+}
+
 impl Bench {
     /// A fresh table with the spaces 1, 2, ..
     fn new(limit: u64, spaces: u32) -> Bench {
@@ -61,7 +80,8 @@ impl Bench {
         bench
     }
 
-    /// Every call of every test goes through here: a refusal writes nothing, a preview answers alike, good tables stay good, and the check is on the list.
+    /// Every call of every test goes through here: a refusal writes nothing, a preview answers alike, good tables stay good, the index lists what it should, and the
+    /// check is on the list.
     fn judge(&mut self, mut call: Call) -> (Number, Call) {
         let (before, asked, was_good) = (self.lent.clone(), call.clone(), bad(&self.lent).is_none());
         let (number, check) = judge(&mut self.lent, &mut call);
@@ -74,6 +94,9 @@ impl Bench {
             assert_eq!(number.value, 0);
         }
         assert!(!was_good || bad(&self.lent).is_none(), "{check:?}");
+        if was_good || number.result >= 0 {
+            assert_eq!(self.lent.index, index_by_hand(&self.lent), "{check:?}");
+        }
         if let (Call::Command { request, bytes, area }, Call::Command { bytes: old_bytes, area: old_area, .. }) = (&call, &asked) {
             let (mut lent, mut preview) = (before.clone(), Call::Preview { request: *request, bytes: old_bytes.clone(), area: old_area.clone() });
             assert_eq!(judge(&mut lent, &mut preview), (number, check));
@@ -168,6 +191,16 @@ impl Bench {
 
     fn charge(&mut self) -> u64 {
         self.judge(Call::Charge).0.value
+    }
+
+    fn next(&mut self, space: u32, address: u64) -> (i32, u64) {
+        let number = self.judge(Call::Next { space, address }).0;
+        (number.result, number.value)
+    }
+
+    /// The first words of the index.
+    fn index(&self, words: usize) -> &[u64] {
+        &self.lent.index[..words]
     }
 
     fn u32_at(&self, at: usize) -> u32 {
@@ -292,6 +325,88 @@ fn k11_k12() {
     assert_eq!(bench.copy(READABLE | WRITEABLE, 2, 1, 4096, 77, 0), -1);
     assert_eq!((bench.unmap(1, 0, 4096), bench.charge()), (Ok(4096), 1));
     assert_eq!((bench.unmap(2, 0, 4096), bench.charge()), (Ok(4096), 0));
+}
+
+// ---- the index
+
+#[test]
+fn l9_records_by_space_and_then_by_address() {
+    let mut bench = Bench::new(1 << 36, 3);
+    let places = [(2, 100, &[1][..]), (3, 0, &[1, 2]), (2, u64::MAX, &[1, 3, 2]), (2, 0, &[4, 1, 3, 2]), (1, 50, &[5, 4, 1, 3, 2])];
+    for (space, address, listed) in places {
+        assert_eq!(bench.fixed(space, address, 1), 0);
+        assert_eq!((bench.index(listed.len()), bench.lent.index[listed.len()]), (listed, 0));
+    }
+    // A refusal leaves it, a copy joins it, and of what is removed nothing stays.
+    assert_eq!(bench.fixed(2, 100, 1), -17);
+    assert_eq!(bench.copy(READABLE | FIXED, 1, 2, 1, 51, 100), 0);
+    assert_eq!(bench.index(7), [5, 6, 4, 1, 3, 2, 0]);
+    assert_eq!(bench.unmap(2, 100, u64::MAX - 100), Ok(1)); // up to the last address, and not with it
+    assert_eq!(bench.index(6), [5, 6, 4, 3, 2, 0]);
+    assert_eq!(bench.automatic(3, 1), Ok(1)); // in record 1, which is free again
+    assert_eq!(bench.index(7), [5, 6, 4, 3, 2, 1, 0]);
+    assert_eq!(bench.destroy(2), 0);
+    assert_eq!(bench.index(5), [5, 6, 2, 1, 0]);
+    assert_eq!(bench.unmap(1, 0, u64::MAX), Ok(2));
+    assert_eq!(bench.index(3), [2, 1, 0]);
+    assert_eq!(bench.host(Call::Fresh { limit: 1 }), 0);
+    assert_eq!(bench.lent.index, [0; 128]);
+}
+
+/// A full table has no zero in its index, and a new mapping may go before all others.
+#[test]
+fn l9_a_full_index() {
+    let mut bench = fresh_space();
+    for k in 0..128 {
+        assert_eq!(bench.fixed(1, 127 - k, 1), 0);
+    }
+    assert_eq!(bench.lent.index, (1..=128).rev().collect::<Vec<u64>>());
+    assert_eq!(bench.fixed(1, 128, 1), -12);
+}
+
+/// Of all indexes one agrees, and the named rules leave no other.
+#[test]
+fn l9_any_other_index_is_bad() {
+    let mut bench = Bench::new(1 << 36, 3);
+    for (space, address) in [(3, 5), (1, 9), (3, 2)] {
+        assert_eq!(bench.fixed(space, address, 1), 0);
+    }
+    let mut found = 0;
+    let pool = [0, 1, 2, 3, 4, 128, 129, 1 << 32 | 1, u64::MAX];
+    for k in 0..pool.len().pow(4) {
+        let mut lent = bench.lent.clone();
+        for at in 0..4 {
+            lent.index[at] = pool[k / pool.len().pow(at as u32) % pool.len()];
+        }
+        let agrees = lent.index == bench.lent.index;
+        assert_eq!(bad(&lent).is_none(), agrees, "{:?}", &lent.index[..4]);
+        found += u32::from(agrees);
+    }
+    assert_eq!((found, bench.index(4)), (1, &[2, 3, 1, 0][..]));
+    // The words behind are judged too, and their number.
+    for at in 4..128 {
+        let mut lent = bench.lent.clone();
+        lent.index[at] = 4;
+        assert!(bad(&lent).is_some());
+    }
+    for words in [0, 1, 3, 127, 129, 256] {
+        let mut lent = bench.lent.clone();
+        lent.index.resize(words, 0);
+        assert!(bad(&lent).is_some());
+        let before = lent.clone();
+        assert_eq!((judge(&mut lent, &mut Call::Fresh { limit: u64::MAX }).0.result, &lent), (-117, &before));
+    }
+}
+
+/// It takes any words of an index but not any number of them.
+#[test]
+fn l9_fresh_over_any_index() {
+    let mut lent = Lent::zeroed();
+    lent.index.fill(u64::MAX);
+    let before = lent.clone();
+    assert_eq!((judge(&mut lent, &mut Call::Fresh { limit: u64::MAX }).0.result, &lent), (-22, &before));
+    assert_eq!(judge(&mut lent, &mut Call::Fresh { limit: 0 }).0.result, 0);
+    assert_eq!(lent, Lent::zeroed());
 }
 
 // ---- what is easily misread
@@ -466,6 +581,56 @@ fn d3_a_backing_of_another_space_stays() {
     assert_eq!(bench.unmap(1, 0, u64::MAX), Ok(0));
 }
 
+/// Of the mappings of the space that end at or after the address, the one with the lowest address, by the number of its record.
+#[test]
+fn next_mapping() {
+    let max = u64::MAX;
+    let mut bench = Bench::new(1 << 36, 2);
+    let device = bench.bind(1, &[]) as u32;
+    assert_eq!(bench.next(1, 0), (0, 0));
+    // records 1 to 4 in another order than their addresses, and one of the other space between
+    for (space, address, length) in [(1, max - 1, 2), (1, 20, 10), (2, 5, 40), (1, 8, 4)] {
+        assert_eq!(bench.fixed(space, address, length), 0);
+    }
+    let told = [(0, 4), (7, 4), (8, 4), (11, 4), (12, 2), (19, 2), (20, 2), (29, 2), (30, 1), (max - 1, 1), (max, 1)];
+    for (address, number) in told {
+        assert_eq!(bench.next(1, address), (0, number));
+    }
+    assert_eq!([0, 44, 45, max].map(|address| bench.next(2, address)), [(0, 3), (0, 3), (0, 0), (0, 0)]);
+    assert_eq!([0, device, 4, 33, u32::MAX].map(|space| bench.next(space, 0)), [(-2, 0); 5]);
+    assert_eq!(bench.unmap(1, max - 1, 2), Ok(2));
+    assert_eq!(bench.next(1, 30), (0, 0));
+}
+
+/// The walk that the header shows sees what an UNMAP of the range takes.
+#[test]
+fn next_walks_over_a_range() {
+    let max = u64::MAX;
+    let mut bench = Bench::new(1 << 36, 1);
+    for (address, length) in [(max, 1), (0, 1), (40, 8), (1, 3), (30, 10), (48, 2)] {
+        assert_eq!(bench.fixed(1, address, length), 0);
+    }
+    let ranges = [(0, max, vec![2, 4, 5, 3, 6, 1]), (1, 3, vec![4]), (4, 29, vec![]), (30, 47, vec![5, 3]), (48, max, vec![6, 1]), (50, max - 1, vec![])];
+    for (first, last, expected) in ranges {
+        let (mut seen, mut bytes, mut from) = (vec![], 0u128, Some(first));
+        while let Some(address) = from {
+            let (result, number) = bench.next(1, address);
+            assert_eq!(result, 0);
+            let Some(record) = (number as usize).checked_sub(1).map(|at| bench.lent.mappings[at]).filter(|record| record.address <= last) else { break };
+            seen.push(number);
+            bytes += u128::from(record.length);
+            from = (record.address + (record.length - 1)).checked_add(1);
+        }
+        assert_eq!(seen, expected);
+        let whole = if last - first == max { max } else { last - first + 1 };
+        let before = bench.lent.clone();
+        let removed = bench.unmap(1, first, whole);
+        assert_eq!(removed, if seen.is_empty() { Err(-2) } else { Ok(bytes as u64) });
+        assert_eq!(bench.lent.mappings.iter().filter(|record| record.space != 0).count(), 6 - seen.len());
+        bench.lent = before;
+    }
+}
+
 // ---- everything that is on a list is reached
 
 /// For each command one that is opened, with the request and the table's size.
@@ -501,6 +666,10 @@ fn every_check_is_reached() {
     assert_eq!(bench.detach(0), -117);
     assert_eq!(bench.reach(0, 0, 0, 0), (-117, 0));
     assert_eq!(bench.host(Call::Charge), -117);
+    assert_eq!(bench.next(0, 0), (-117, 0));
+    bench.lent.mappings.push(Mapping::default());
+    bench.lent.index.pop();
+    assert_eq!(bench.host(Call::Fresh { limit: max }), -117);
     all(bench);
 
     // MAP, on a space with alignment 16 and 4,096 to 8,191 reserved
@@ -622,6 +791,10 @@ fn every_check_is_reached() {
     assert_eq!(bench.reach(device, 4096, 1, 1), (-1, 0));
     assert_eq!(bench.reach(device, 8192, 1, 0), (-1, 0));
     assert_eq!(bench.reach(device, 8193, 4095, 1), (0, 1));
+    assert_eq!(bench.next(device, 0), (-2, 0));
+    assert_eq!(bench.next(1, 8191), (0, 1));
+    assert_eq!(bench.next(1, 12287), (0, 2));
+    assert_eq!(bench.next(1, 12288), (0, 0));
     for id in [0, 3, 33, u32::MAX] {
         assert_eq!(bench.destroy(id), -2);
     }
@@ -661,6 +834,9 @@ fn every_bad_rule_is_reached() {
     type Damage = (&'static str, fn(&mut Lent));
     let breaks: &[Damage] = &[
         ("the mapping records are not 128", |lent| lent.mappings.push(Mapping::default())),
+        ("no index is lent", |lent| lent.index.clear()),
+        ("the index has fewer than 128 words", |lent| lent.index.truncate(127)),
+        ("the index has more than 128 words", |lent| lent.index.push(0)),
         ("an object record is neither free, a space nor a device", |lent| lent.head.objects[9].kind = 7),
         ("a free object record is not zero", |lent| lent.head.objects[9].allow_lasts[7] = 1),
         ("a field that a space does not use is not zero", |lent| lent.head.objects[0].home = 1),
@@ -696,6 +872,16 @@ fn every_bad_rule_is_reached() {
         ("mappings of one backing differ in the founding right to write", |lent| lent.mappings[1].founder = 0),
         ("a mapping may write without the founding right", |lent| (lent.mappings[0].founder, lent.mappings[1].founder) = (0, 0)),
         ("the limit is below the charge", |lent| lent.head.limit = 0),
+        ("the index has a number past 128", |lent| lent.index[2] = 129),
+        ("the index has a number behind a zero", |lent| lent.index.swap(1, 2)),
+        ("the index lists a released record", |lent| lent.index[2] = 3),
+        ("the index lists a record twice", |lent| lent.index[2] = 2),
+        ("the index misses a mapping", |lent| lent.index[1] = 0),
+        ("the index has the spaces out of order", |lent| lent.index.swap(0, 1)),
+        ("the index has the addresses of a space out of order", |lent| {
+            lent.mappings[2] = Mapping { address: 32, ..lent.mappings[0] };
+            lent.index[..3].copy_from_slice(&[3, 1, 2]);
+        }),
     ];
     for (rule, damage) in breaks {
         let mut lent = full_table();
@@ -713,6 +899,7 @@ fn good_tables_that_look_odd() {
     // B3, B4: numbers and records need not be the lowest, two spaces may map the same addresses, rights of one backing may differ, the limit may be the charge.
     let mut lent = full_table();
     lent.mappings.swap(0, 127);
+    lent.index[0] = 128;
     (lent.mappings[127].backing, lent.mappings[1].backing, lent.head.limit) = (128, 128, 1);
     assert_eq!(bad(&lent), None);
     // Two backings of the same memory are two charges.
@@ -799,7 +986,7 @@ fn placement_and_iova_ranges_of_small_tables() {
 /// Any numbers in the memory and the arguments: every call answers, and `Bench::judge` holds.
 #[test]
 fn any_memory_is_answered() {
-    let pool = [0, 1, 2, 3, 4, 5, 8, 9, 15, 16, 17, 32, 33, 77, 128, 129, 4095, 4096, 8191, 8192, 1 << 32, 1 << 36, 1 << 40, u64::MAX - 15, u64::MAX];
+    let pool = [0, 1, 2, 3, 4, 5, 8, 9, 15, 16, 17, 32, 33, 77, 127, 128, 129, 4095, 4096, 8191, 8192, 1 << 32, 1 << 36, 1 << 40, u64::MAX - 15, u64::MAX];
     let mut dice = Dice(2);
     let (mut good, mut broken) = (0, BTreeSet::new());
     let whole = full_table();
@@ -807,7 +994,7 @@ fn any_memory_is_answered() {
         let mut bench = Bench { lent: whole.clone(), met: BTreeSet::new(), bytes: vec![], area: vec![] };
         let mut any = || pool[dice.below(pool.len() as u64) as usize];
         let (object, mapping) = (&mut bench.lent.head.objects[any() as usize % 5], &mut bench.lent.mappings[any() as usize % 3]);
-        match any() % 20 {
+        match any() % 23 {
             0 => object.kind = any() as u32,
             1 => object.home = any() as u32,
             2 => object.bitmap = any(),
@@ -826,6 +1013,8 @@ fn any_memory_is_answered() {
             15 => mapping.memory = any(),
             16 => bench.lent.head.limit = any(),
             17 => bench.lent.mappings.resize(any() as usize % 200, Mapping::default()),
+            18 => bench.lent.index.resize(any() as usize % 200, 0),
+            19 => bench.lent.index[any() as usize % 5] = any(),
             _ => {}
         }
         match bad(&bench.lent) {
@@ -848,6 +1037,7 @@ fn any_memory_is_answered() {
         bench.reach(any() as u32, a, b, any() as u32);
         bench.detach(any() as u32);
         bench.charge();
+        bench.next(a as u32, b);
         bench.host(Call::Fresh { limit: any() });
     }
     assert!(good > 200 && broken.len() > 25, "{good} {broken:?}");

@@ -1,7 +1,7 @@
-//! Whether a table is good, by the steps of the archive, and what is found on the way: one pass over the objects, one over the mapping records, each
-//! reserved range against all mappings, and the pairs of mappings only where some record was out of order.
+//! Whether a table is good, by the steps of the archive, and what is found on the way: one pass over the objects, one over the mapping records, one over
+//! the index, which tells that no two mappings share an address, and one search of the index for each reserved range.
 use super::range::{overlap, touch};
-use super::table::{allowed, extent, page, pages, reserved, Records};
+use super::table::{allowed, extent, is_mapped, page, pages, reserved, Index, Records};
 use super::{ATTACHED, LOOSE, MAX_LENGTH, MAX_LIMIT, MAX_PAGE, READ, RECORDS, SPACE, WRITE};
 use iommufd::raw::{Head, Mapping, Object};
 
@@ -17,25 +17,25 @@ pub struct Found {
     pub alignments: [u64; 33],
     /// By its number, one more than the place of a backing's first record, 0 where no record has the backing.
     pub marks: [u8; RECORDS + 1],
-    /// Whether the mappings of each space ascend, so that no two of them share an address.
-    ordered: bool,
+    /// How many mapping records are in use.
+    pub used: usize,
 }
 
 impl Found {
     pub fn nothing() -> Found {
-        Found { charge: 0, object: None, mapping: None, alignments: [0; 33], marks: [0; RECORDS + 1], ordered: false }
+        Found { charge: 0, object: None, mapping: None, alignments: [0; 33], marks: [0; RECORDS + 1], used: 0 }
     }
 }
 
 /// `found` comes with nothing in it, and is of use where the table is good. The passes are functions of their own: inlined into one they would take
 /// each other's registers.
-pub fn is_good(head: &Head, mappings: &Records, found: &mut Found) -> bool {
+pub fn is_good(head: &Head, mappings: &Records, index: &Index, found: &mut Found) -> bool {
     head.limit <= MAX_LIMIT
         && objects_good(head, found)
         && records_good(mappings, found)
         && found.charge <= head.limit
-        && clear_of_reserved(head, mappings)
-        && (found.ordered || !clashing(mappings))
+        && index_good(mappings, index, found.used)
+        && clear_of_reserved(head, mappings, &index[..found.used])
 }
 
 // ---- objects
@@ -111,11 +111,10 @@ fn home_good(head: &Head, device: &Object) -> bool {
 
 // ---- mappings
 
-/// Each record in use by its own rules, against the first record of its backing, and against the floor of its space: the first address behind the
-/// record before it.
+/// Each record in use by its own rules, and against the first record of its backing.
 #[inline(never)]
 fn records_good(mappings: &Records, found: &mut Found) -> bool {
-    let (mut floors, mut charge, mut free, mut ordered) = ([0; 33], 0, RECORDS, true);
+    let (mut charge, mut free, mut used) = (0, RECORDS, 0);
     for (place, m) in mappings.iter().enumerate() {
         if m.space == 0 {
             if !is_empty(m) {
@@ -134,14 +133,11 @@ fn records_good(mappings: &Records, found: &mut Found) -> bool {
             } else if differ(&mappings[*mark as usize - 1], m) {
                 return false;
             }
-            // Behind U64MAX there is no floor.
-            let last = extent(m).last;
-            let floor = std::mem::replace(&mut floors[m.space as usize], last.wrapping_add(1));
-            ordered &= floor <= m.address && last < u64::MAX;
+            used += 1;
         }
     }
     found.charge = charge;
-    found.ordered = ordered;
+    found.used = used;
     found.mapping = (free < RECORDS).then_some(free);
     true
 }
@@ -170,16 +166,24 @@ fn differ(m: &Mapping, n: &Mapping) -> bool {
     (m.memory, m.length, m.founder) != (n.memory, n.length, n.founder)
 }
 
+/// As many numbers as there are records in use, each of a record that lies behind the one before it, and then zeros. So no number comes twice, all records in
+/// use are listed, and no two mappings of a space share an address. A released record is of space 0 and lies behind none.
 #[inline(never)]
-fn clear_of_reserved(head: &Head, mappings: &Records) -> bool {
-    let mut devices = head.objects.iter().filter(|o| o.kind == ATTACHED);
-    devices.all(|d| reserved(d).all(|r| !mappings.iter().any(|m| m.space == d.home && r.shares(extent(m)))))
+fn index_good(mappings: &Records, index: &Index, used: usize) -> bool {
+    let (listed, rest) = index.split_at(used);
+    let (mut space, mut last) = (0, u64::MAX);
+    for &number in listed {
+        let Some(m) = mappings.get((number as usize).wrapping_sub(1)) else { return false };
+        if m.space < space || (m.space == space && m.address <= last) {
+            return false;
+        }
+        (space, last) = (m.space, extent(m).last);
+    }
+    joined(rest) == 0
 }
 
-/// Whether two mappings of one space share an address.
-fn clashing(mappings: &Records) -> bool {
-    mappings.iter().enumerate().filter(|(_, m)| m.space != 0).any(|(i, m)| {
-        let taken = extent(m);
-        mappings[i + 1..].iter().any(|n| n.space == m.space && extent(n).shares(taken))
-    })
+#[inline(never)]
+fn clear_of_reserved(head: &Head, mappings: &Records, listed: &[u64]) -> bool {
+    let mut devices = head.objects.iter().filter(|o| o.kind == ATTACHED);
+    devices.all(|d| reserved(d).all(|r| !is_mapped(mappings, listed, d.home, r)))
 }

@@ -1,30 +1,35 @@
 //! The seven commands: what each decides, with the reply written where it is accepted, and the change that is then made.
-use super::place::{place, Target};
+use super::place::{place, Landing, Target};
 use super::range::{overlap, touch, Range};
-use super::table::{extent, pages, Table};
+use super::table::{extent, pages, Run, Table};
 use super::wire::{ranges, read32, read64, write32, write64, RANGE};
 use super::{
     refuse, Answer, ATTACHED, E2BIG, EADDRINUSE, EBUSY, EFAULT, EINVAL, EMSGSIZE, ENOENT, ENOMEM, ENOTTY, EOPNOTSUPP, EOVERFLOW, EPERM, MAX_LENGTH,
-    READ, SPACE, WRITE,
+    READ, SPACE, WORDS, WRITE,
 };
 use iommufd::raw::{Head, Mapping, Object};
 use iommufd::request::{ALLOW_IOVAS, COPY, DESTROY, IOAS_ALLOC, IOVA_RANGES, MAP, UNMAP};
 use iommufd::{FIXED, READABLE, WRITEABLE};
 
-/// What a command does to the table. Places are of object and mapping records.
+/// What a command does to the table. A place is that of an object record; runs are places of the index.
 pub enum Change {
     Nothing,
     NewSpace(usize),
     /// The object goes, and where it is a space its mappings with it.
-    Release(usize),
+    Release(usize, Run),
     /// The allow list becomes the first `count` ranges of the range area.
     Allow {
         place: usize,
         count: usize,
     },
-    Put(usize, Mapping),
-    /// The mappings of a space inside the range go.
-    Clear(u32, Range),
+    /// A mapping into a record, which is listed at a place of the index.
+    Put {
+        record: usize,
+        listed: usize,
+        mapping: Mapping,
+    },
+    /// The mappings that are listed there go.
+    Clear(Run),
 }
 
 pub fn decide(t: Table, request: u32, command: &mut [u8], area: &mut [u8]) -> Answer<Change> {
@@ -40,26 +45,32 @@ pub fn decide(t: Table, request: u32, command: &mut [u8], area: &mut [u8]) -> An
     }
 }
 
-pub fn apply(head: &mut Head, mappings: &mut [Mapping], change: Change, area: &[u8]) {
+pub fn apply(head: &mut Head, mappings: &mut [Mapping], index: &mut [u64], change: Change, area: &[u8]) {
     match change {
         Change::Nothing => {}
         Change::NewSpace(i) => head.objects[i].kind = SPACE,
-        Change::Release(i) => {
+        Change::Release(i, run) => {
             head.objects[i] = Object::default();
-            clear(mappings, i as u32 + 1, Range::ALL);
+            clear(mappings, index, run);
         }
         Change::Allow { place, count } => set_allowed(&mut head.objects[place], &area[..RANGE * count]),
-        Change::Put(i, m) => mappings[i] = m,
-        Change::Clear(space, range) => clear(mappings, space, range),
+        Change::Put { record, listed, mapping } => {
+            mappings[record] = mapping;
+            // A record was free, so the last word is 0.
+            index.copy_within(listed..WORDS - 1, listed + 1);
+            index[listed] = record as u64 + 1;
+        }
+        Change::Clear(run) => clear(mappings, index, run),
     }
 }
 
-fn clear(mappings: &mut [Mapping], space: u32, range: Range) {
-    for m in mappings {
-        if m.space == space && extent(m).is_inside(range) {
-            *m = Mapping::default();
-        }
+/// The mappings of a run go, and what is listed behind it moves up.
+fn clear(mappings: &mut [Mapping], index: &mut [u64], run: Run) {
+    for &number in &index[run.clone()] {
+        mappings[number as usize - 1] = Mapping::default();
     }
+    index.copy_within(run.end.., run.start);
+    index[WORDS - run.len()..].fill(0);
 }
 
 fn set_allowed(space: &mut Object, list: &[u8]) {
@@ -101,7 +112,8 @@ fn destroy(t: Table, command: &[u8]) -> Answer<Change> {
     let id = read32(command, 4);
     let object = t.object(id).ok_or(ENOENT)?;
     refuse(object.kind == ATTACHED || t.devices(id).next().is_some(), EBUSY)?;
-    Ok(Change::Release(id as usize - 1))
+    let run = if object.kind == SPACE { t.run(id) } else { 0..0 };
+    Ok(Change::Release(id as usize - 1, run))
 }
 
 fn alloc(t: Table, command: &mut [u8]) -> Answer<Change> {
@@ -194,13 +206,14 @@ fn map(t: Table, command: &mut [u8]) -> Answer<Change> {
         check_sum(address, length)?;
     }
     let space = t.space(id).ok_or(ENOENT)?;
-    let address = place(t, space, &target)?;
-    let free = t.free_mapping().ok_or(ENOMEM)?;
+    let Landing { address, place: listed } = place(t, space, &target)?;
+    let record = t.free_mapping().ok_or(ENOMEM)?;
     let (charge, backing) = t.backings();
     refuse(charge + pages(memory, length) > t.head.limit, ENOMEM)?;
     write64(command, 32, address);
     let founder = (flags & WRITEABLE != 0) as u32;
-    Ok(Change::Put(free, Mapping { space: id, rights: rights(flags), founder, backing, address, length, memory }))
+    let mapping = Mapping { space: id, rights: rights(flags), founder, backing, address, length, memory };
+    Ok(Change::Put { record, listed, mapping })
 }
 
 fn copy(t: Table, command: &mut [u8]) -> Answer<Change> {
@@ -216,12 +229,12 @@ fn copy(t: Table, command: &mut [u8]) -> Answer<Change> {
     }
     let space = t.space(id).ok_or(ENOENT)?;
     t.space(source).ok_or(ENOENT)?;
-    let source = t.mappings(source).find(|m| m.address == from && m.length == length).ok_or(ENOENT)?;
+    let source = t.first_from(source, from).filter(|m| m.address == from && m.length == length).ok_or(ENOENT)?;
     refuse(flags & WRITEABLE != 0 && source.founder == 0, EPERM)?;
-    let address = place(t, space, &target)?;
-    let free = t.free_mapping().ok_or(ENOMEM)?;
+    let Landing { address, place: listed } = place(t, space, &target)?;
+    let record = t.free_mapping().ok_or(ENOMEM)?;
     write64(command, 24, address);
-    Ok(Change::Put(free, Mapping { space: id, rights: rights(flags), address, ..*source }))
+    Ok(Change::Put { record, listed, mapping: Mapping { space: id, rights: rights(flags), address, ..*source } })
 }
 
 fn unmap(t: Table, command: &mut [u8]) -> Answer<Change> {
@@ -230,23 +243,20 @@ fn unmap(t: Table, command: &mut [u8]) -> Answer<Change> {
     let asked = Range::of(address, length).ok_or(EOVERFLOW)?;
     t.space(id).ok_or(ENOENT)?;
     let all = (address, length) == (0, u64::MAX);
-    let range = if all { Range::ALL } else { asked };
-    let removed = removed(t, id, range)?;
-    refuse(removed == 0 && !all, ENOENT)?;
+    let (run, removed) = inside(t, id, if all { Range::ALL } else { asked })?;
+    refuse(run.is_empty() && !all, ENOENT)?;
     write64(command, 16, removed);
-    Ok(Change::Clear(id, range))
+    Ok(Change::Clear(run))
 }
 
-/// The bytes of the mappings inside the range, where none is cut.
-fn removed(t: Table, space: u32, range: Range) -> Answer<u64> {
-    let mut bytes = 0;
-    for m in t.mappings(space) {
-        let extent = extent(m);
-        if extent.is_inside(range) {
-            bytes += m.length;
-        } else if extent.shares(range) {
-            return Err(ENOENT);
-        }
+/// The mappings of a space inside a range and their bytes, where none is cut.
+fn inside(t: Table, space: u32, range: Range) -> Answer<(Run, u64)> {
+    let first = t.seek(space, range.start);
+    let (mut behind, mut bytes) = (first, 0);
+    for m in t.from(first, space).take_while(|m| m.address <= range.last) {
+        refuse(!extent(m).is_inside(range), ENOENT)?;
+        behind += 1;
+        bytes += m.length;
     }
-    Ok(bytes)
+    Ok((first..behind, bytes))
 }

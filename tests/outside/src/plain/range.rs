@@ -31,7 +31,7 @@ impl Range {
 }
 
 /// A stored list: the first `count` of its places.
-pub fn listed<'a>(starts: &'a [u64], lasts: &'a [u64], count: u32) -> impl Iterator<Item = Range> + Clone + 'a {
+pub fn ranges<'a>(starts: &'a [u64], lasts: &'a [u64], count: u32) -> impl Iterator<Item = Range> + Clone + 'a {
     starts.iter().zip(lasts).take(count as usize).map(|(&start, &last)| Range { start, last })
 }
 

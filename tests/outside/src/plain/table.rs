@@ -1,16 +1,22 @@
 //! A table to look at: what the calls ask of its records.
 use super::check::Found;
-use super::range::{listed, Range};
-use super::{ATTACHED, LOOSE, READ, RECORDS, SPACE, WRITE};
+use super::range::{ranges, Range};
+use super::{ATTACHED, LOOSE, READ, RECORDS, SPACE, WORDS, WRITE};
 use iommufd::raw::{Head, Mapping, Object};
 
 /// The mapping records of a table.
 pub type Records = [Mapping; RECORDS];
+/// The numbers of the records in use, from 1 on, by space and then by address; zeros behind them.
+pub type Index = [u64; WORDS];
+/// Places of the index.
+pub type Run = std::ops::Range<usize>;
 
 #[derive(Clone, Copy)]
 pub struct Table<'a> {
     pub head: &'a Head,
     pub mappings: &'a Records,
+    /// The index up to its zeros.
+    pub listed: &'a [u64],
     /// What the check has found; where the table is trusted nothing is known, and what a call needs is worked out.
     pub found: Option<&'a Found>,
 }
@@ -27,11 +33,11 @@ pub fn is_device(o: &Object) -> bool {
 }
 
 pub fn reserved(device: &Object) -> impl Iterator<Item = Range> + Clone + '_ {
-    listed(&device.reserved_starts, &device.reserved_lasts, device.reserved_count)
+    ranges(&device.reserved_starts, &device.reserved_lasts, device.reserved_count)
 }
 
 pub fn allowed(space: &Object) -> impl Iterator<Item = Range> + Clone + '_ {
-    listed(&space.allow_starts, &space.allow_lasts, space.allow_count)
+    ranges(&space.allow_starts, &space.allow_lasts, space.allow_count)
 }
 
 /// The addresses of a good mapping.
@@ -46,6 +52,35 @@ pub fn holds(m: &Mapping, write: bool) -> bool {
 /// The pages that the bytes touch, of which there is at least one.
 pub fn pages(memory: u64, length: u64) -> u64 {
     (memory + (length - 1)) / 4096 - memory / 4096 + 1
+}
+
+// ---- the index of a good table
+
+/// The index up to its zeros.
+pub fn listed(index: &Index) -> &[u64] {
+    &index[..index.partition_point(|&number| number != 0)]
+}
+
+fn numbered(mappings: &Records, number: u64) -> &Mapping {
+    &mappings[number as usize - 1]
+}
+
+/// The place of the first mapping of a space that ends at an address or behind it; where there is none, that of what follows the space.
+pub fn seek(mappings: &Records, listed: &[u64], space: u32, address: u64) -> usize {
+    listed.partition_point(|&number| {
+        let m = numbered(mappings, number);
+        (m.space, extent(m).last) < (space, address)
+    })
+}
+
+/// The mapping at a place, where it is one of the space.
+fn at<'a>(mappings: &'a Records, listed: &[u64], place: usize, space: u32) -> Option<&'a Mapping> {
+    listed.get(place).map(|&number| numbered(mappings, number)).filter(|m| m.space == space)
+}
+
+/// Whether a mapping of a space shares an address with a range.
+pub fn is_mapped(mappings: &Records, listed: &[u64], space: u32, range: Range) -> bool {
+    at(mappings, listed, seek(mappings, listed, space, range.start), space).is_some_and(|m| m.address <= range.last)
 }
 
 // ---- the whole
@@ -93,8 +128,38 @@ impl<'a> Table<'a> {
         self.devices(space).flat_map(reserved)
     }
 
+    /// The place in the index of the first mapping of a space that ends at an address or behind it.
+    pub fn seek(self, space: u32, address: u64) -> usize {
+        seek(self.mappings, self.listed, space, address)
+    }
+
+    /// The mapping at a place of the index, where it is one of the space.
+    pub fn at(self, place: usize, space: u32) -> Option<&'a Mapping> {
+        at(self.mappings, self.listed, place, space)
+    }
+
+    /// The mappings of a space from a place of the index on, in ascending address.
+    pub fn from(self, place: usize, space: u32) -> impl Iterator<Item = &'a Mapping> + Clone {
+        self.listed[place..].iter().map(move |&number| numbered(self.mappings, number)).take_while(move |m| m.space == space)
+    }
+
+    /// The first mapping of a space that ends at an address or behind it.
+    pub fn first_from(self, space: u32, address: u64) -> Option<&'a Mapping> {
+        self.at(self.seek(space, address), space)
+    }
+
     pub fn mappings(self, space: u32) -> impl Iterator<Item = &'a Mapping> + Clone {
-        self.mappings.iter().filter(move |m| m.space == space)
+        self.from(self.seek(space, 0), space)
+    }
+
+    /// The places in the index of all mappings of a space.
+    pub fn run(self, space: u32) -> Run {
+        self.seek(space, 0)..self.seek(space + 1, 0)
+    }
+
+    /// Whether a mapping of a space shares an address with a range.
+    pub fn is_mapped(self, space: u32, range: Range) -> bool {
+        is_mapped(self.mappings, self.listed, space, range)
     }
 
     /// The pages of all backings, each counted once.

@@ -1,7 +1,7 @@
 //! K1 to K12 of document 01 on the plain program, with and without its check.
 use super::*;
 use crate::calls::System;
-use iommufd::request::{ALLOW_IOVAS, COPY, IOAS_ALLOC, IOVA_RANGES, MAP, UNMAP};
+use iommufd::request::{ALLOW_IOVAS, COPY, DESTROY, IOAS_ALLOC, IOVA_RANGES, MAP, UNMAP};
 use iommufd::{FIXED, READABLE, WRITEABLE};
 
 const MAX: u64 = u64::MAX;
@@ -196,4 +196,72 @@ fn a_bad_table() {
     b.lent.head.limit = MAX_LIMIT;
     b.lent.mappings.pop();
     assert_eq!(b.ask(&mut Call::Charge), Number { result: -117, value: 0 });
+}
+
+#[test]
+fn the_index_is_kept() {
+    both(|mut b| {
+        b.space();
+        for (address, listed) in [(8, &[1, 0][..]), (0, &[2, 1, 0]), (4, &[2, 3, 1, 0]), (12, &[2, 3, 1, 4, 0])] {
+            assert_eq!(b.map(FIXED, 0, 4, address).0, 0);
+            assert_eq!(b.lent.index[..listed.len()], *listed);
+        }
+        assert_eq!(b.copy(READABLE, 4), 0);
+        assert_eq!(b.lent.index[..6], [2, 3, 1, 4, 5, 0]);
+        assert_eq!(b.unmap(1, 4, 8), (0, 8));
+        assert_eq!(b.lent.index[..4], [2, 4, 5, 0]);
+        assert_eq!(b.map(0, 0, 4, 0), (0, 4));
+        assert_eq!(b.lent.index[..5], [2, 1, 4, 5, 0]);
+        assert_eq!(b.command(DESTROY, bytes(&[8, 1], &[]), vec![]).0, 0);
+        assert_eq!(b.lent.index[..2], [5, 0]);
+    });
+}
+
+#[test]
+fn next_mapping() {
+    both(|mut b| {
+        b.space();
+        assert_eq!(b.map(FIXED, 0, 1, u64::MAX).0, 0);
+        assert_eq!(b.map(FIXED, 0, 4, 8).0, 0);
+        assert_eq!(b.map(FIXED, 0, 4, 0).0, 0);
+        assert_eq!(b.command(COPY, bytes(&[40, READABLE | FIXED, 2, 1], &[4, 100, 8]), vec![]).0, 0);
+        let before = b.lent.clone();
+        let told = [(1, 0, 3), (1, 3, 3), (1, 4, 2), (1, 11, 2), (1, 12, 1), (1, u64::MAX, 1), (2, 0, 4), (2, 103, 4), (2, 104, 0), (2, u64::MAX, 0)];
+        for (space, address, value) in told {
+            assert_eq!(b.ask(&mut Call::Next { space, address }), Number { result: 0, value });
+        }
+        for space in [0, 3, 33, u32::MAX] {
+            assert_eq!(b.ask(&mut Call::Next { space, address: 0 }), Number { result: -2, value: 0 });
+        }
+        assert_eq!(b.lent, before);
+    });
+}
+
+#[test]
+fn another_index() {
+    let others: [fn(&mut Vec<u64>); 9] = [
+        |index| index.swap(0, 1),
+        |index| index.swap(1, 2),
+        |index| index[2] = 2,
+        |index| index[2] = 3,
+        |index| index[1] = 0,
+        |index| index[0] += 1 << 32,
+        |index| index[127] = 2,
+        |index| index.truncate(127),
+        |index| index.push(0),
+    ];
+    for other in others {
+        let mut b = Bench::new(checked);
+        b.space();
+        assert_eq!(b.map(0, 0, 4, 0).0, 0);
+        assert_eq!(b.copy(READABLE, 4), 0);
+        other(&mut b.lent.index);
+        let before = b.lent.clone();
+        assert_eq!(b.map(0, 0, 4, 9), (-117, 9));
+        assert_eq!(b.ask(&mut Call::Charge), Number { result: -117, value: 0 });
+        assert_eq!(b.ask(&mut Call::Next { space: 1, address: 0 }), Number { result: -117, value: 0 });
+        assert_eq!(b.lent, before);
+        let told = b.ask(&mut Call::Fresh { limit: 0 }).result;
+        assert_eq!(told, if before.index.len() == 128 { 0 } else { -117 });
+    }
 }

@@ -8,11 +8,11 @@ mod callgrind;
 mod options;
 
 use callgrind::Count;
-use options::{Limits, Options};
+use options::{Limits, Options, ORDER_LIMITS};
 use outside::machine;
 use outside::subjects::{cells, Cell, Subject, ALL, ARCHIVE};
 use outside::tables::{grouped, growth, heading, Figure, Row, ROWS};
-use outside::workloads::{Workload, COUNTS};
+use outside::workloads::{Shape, Workload, COUNTS};
 use std::path::Path;
 use std::process::ExitCode;
 
@@ -110,6 +110,26 @@ fn judge(rows: &[Row], limits: Limits) -> Result<(), String> {
     }
 }
 
+/// What the archive takes on a full table of another shape, as a multiple of the ascending one: the worst of all workloads.
+fn against_order(rows: &[Row], shape: Shape) -> f64 {
+    let full = |shape: Shape| rows.iter().filter(move |r| r.cell.shape == shape && r.is_full());
+    let own = |row: &Row| row.figure('a').map(|f| f.number);
+    let ratios = full(shape).filter_map(|r| Some(own(r)? / own(full(Shape::Ascending).find(|s| s.cell.workload == r.cell.workload)?)?));
+    ratios.fold(0.0, f64::max)
+}
+
+/// Prints what the order of the records costs, and fails where it is more than it may be.
+fn judge_order(rows: &[Row], limits: Limits) -> Result<(), String> {
+    for (shape, limit) in ORDER_LIMITS {
+        let ratio = against_order(rows, shape);
+        println!("The highest of a full {} table against the ascending one, in (a): {ratio:.2}.", shape.name());
+        if limits[0].is_finite() && ratio > limit {
+            return Err(format!("a full {} table takes {ratio:.3} times the ascending one, the limit is {limit}", shape.name()));
+        }
+    }
+    Ok(())
+}
+
 fn run() -> Result<(), String> {
     let options = Options::read(std::env::args().skip(1))?;
     let cells = cells(&Workload::ALL);
@@ -123,7 +143,8 @@ fn run() -> Result<(), String> {
     let rows = table(&cells, &rounds, kit.as_deref());
     growth(&rows, "instructions");
     without_copies(&rounds);
-    judge(&rows, options.limits)
+    judge(&rows, options.limits)?;
+    judge_order(&rows, options.limits)
 }
 
 fn main() -> ExitCode {

@@ -1,0 +1,4 @@
+pub mod Climbing
+pub mod Walking
+pub mod Behind
+pub mod Agreed

@@ -1,0 +1,1 @@
+// The index of the mapping records: laws. No code: see specs/.

@@ -1,0 +1,4 @@
+pub mod Counting
+pub mod Shifting
+pub mod Firsts
+pub mod Entering

@@ -1,0 +1,7 @@
+pub mod Halving
+pub mod Telling
+pub mod Adding
+pub mod Running
+pub mod Shifting
+pub mod Numbering
+pub mod Changing

@@ -1,0 +1,1 @@
+// A table with its index: after every call the index lists the mappings of each space. No code: see specs/.

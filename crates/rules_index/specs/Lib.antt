@@ -1,0 +1,3 @@
+-- What stands beside the table (L9): the index of its mapping records.
+pub mod Index
+pub mod Board

@@ -1,0 +1,1 @@
+// What stands beside the table: definitions. No code: see specs/.

@@ -1,0 +1,2 @@
+-- Lists in order. It knows nothing of mappings.
+pub mod Sorted

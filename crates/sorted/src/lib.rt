@@ -1,0 +1,1 @@
+// Lists in order: laws. No code: see specs/.
