@@ -3,17 +3,10 @@ ghost use Prim.Native.Nat.{_≤_};
 ghost use mathlib.Core.Path.{_≡_};
 ghost use mathlib.Core.Option.{some};
 ghost use lib.ListN.{length};
-ghost use Rattle.rules_table.specs.Words.{low};
 ghost use Rattle.rules_lent.specs.Entries.{orderIn, reservedIn};
 ghost use Rattle.lent_order.specs.Orders.{toldIn};
 use rangelists::Reserved;
 use rules_calls::Order;
-
-fn low(w: u64) -> u32
-    ensures { λ r. ⌜ r ≡ low w ⌝ }
-{
-    (w % 4294967296) as u32
-}
 
 fn reserved_in(words: &[u64]) -> Reserved
     requires { ⌜ 10 ≤ length (now words) ⌝ }
@@ -22,7 +15,7 @@ fn reserved_in(words: &[u64]) -> Reserved
     let starts = [words[2], words[3], words[4], words[5]];
     let lasts = [words[6], words[7], words[8], words[9]];
     Reserved {
-        count: low(words[1]),
+        count: layout::low(words[1]),
         starts,
         lasts,
     }
@@ -34,21 +27,21 @@ pub fn order_in(kind: u32, words: &[u64]) -> Order
     ensures { λ o. ⌜ orderIn kind (now (words .entry)) ≡ some o ⌝ }
 {
     if kind == 1 {
-        return host_calls::bind_order(words[0], reserved_in(words));
+        return host_orders::bind_order(words[0], reserved_in(words));
     }
     if kind == 2 {
-        return host_calls::attach_order(low(words[0]), low(words[1]));
+        return host_orders::attach_order(layout::low(words[0]), layout::low(words[1]));
     }
     if kind == 3 {
-        return host_calls::detach_order(low(words[0]));
+        return host_orders::detach_order(layout::low(words[0]));
     }
     if kind == 4 {
-        return host_calls::reach_order(low(words[0]), words[1], words[2], words[3] != 0);
+        return host_orders::reach_order(layout::low(words[0]), words[1], words[2], words[3] != 0);
     }
     if kind == 5 {
-        return host_calls::charge_order();
+        return host_orders::charge_order();
     }
-    host_calls::next_order(low(words[0]), words[1])
+    host_orders::next_order(layout::low(words[0]), words[1])
 }
 
 // What an edit tells stands in the first word.

@@ -1,3 +1,4 @@
+-- By the kind.
 use native.Mathlib.Omega.{arith}
 use Rattle.lent_order.specs.Orders.{is-next, is-bind, is-attach, is-detach, is-reach, is-charge}
 use borrow.Author.Needs.{needs}
@@ -14,7 +15,7 @@ bind-order-requires : tie.Need-bind-order-requires
 bind-order-requires c κs = search needs
 
 returns : tie.Need-returns
-returns c = is-bind _ _ _ (omega arith) cc
+returns c = is-bind _ _ _ (omega arith) (rw (c .bind-order .ensures, c .before .reserved-in .ensures))
 
 shared-slice-read-low : tie.Need-shared-slice-read-low
 shared-slice-read-low c = search needs
@@ -32,7 +33,7 @@ attach-order-requires : tie.Need-attach-order-requires
 attach-order-requires c κs = search needs
 
 returns-2 : tie.Need-returns-2
-returns-2 c = is-attach _ _ _ (omega arith) cc
+returns-2 c = is-attach _ _ _ (omega arith) (rw (c .attach-order .ensures, c .before .low2 .ensures, c .before .before .before .low .ensures))
 
 shared-slice-read-low-3 : tie.Need-shared-slice-read-low-3
 shared-slice-read-low-3 c = search needs
@@ -44,7 +45,7 @@ detach-order-requires : tie.Need-detach-order-requires
 detach-order-requires c κs = search needs
 
 returns-3 : tie.Need-returns-3
-returns-3 c = is-detach _ _ _ (omega arith) cc
+returns-3 c = is-detach _ _ _ (omega arith) (rw (c .detach-order .ensures, c .before .low3 .ensures))
 
 shared-slice-read-low-4 : tie.Need-shared-slice-read-low-4
 shared-slice-read-low-4 c = search needs
@@ -71,27 +72,22 @@ charge-order-requires : tie.Need-charge-order-requires
 charge-order-requires c κs = search needs
 
 returns-5 : tie.Need-returns-5
-returns-5 c = is-charge _ _ _ (omega arith) cc
+returns-5 c = is-charge _ _ _ (omega arith) (c .charge-order .ensures)
 
--- src/lib.rt:244:32
 shared-slice-read-low-5 : tie.Need-shared-slice-read-low-5
 shared-slice-read-low-5 c = search needs
 
--- src/lib.rt:244:28
 low-requires-5 : tie.Need-low-requires-5
 low-requires-5 c κs = search needs
 
--- src/lib.rt:244:43
 shared-slice-read-next-order : tie.Need-shared-slice-read-next-order
 shared-slice-read-next-order c = search needs
 
--- src/lib.rt:244:5
 next-order-requires : tie.Need-next-order-requires
 next-order-requires c κs = search needs
 
--- src/lib.rt:225:1
 returns-6 : tie.Need-returns-6
-returns-6 c = is-next _ _ _ (omega arith) cc
+returns-6 c = is-next _ _ _ (omega arith) (rw (c .next-order .ensures, c .before .before .low5 .ensures))
 
 pub order-in-spec : {M : Type 1} → statement M
 order-in-spec =

@@ -12,8 +12,8 @@ use Rattle.check_mappings.specs.Told.{pageOf}
 use Rattle.check_table.specs.Known.{page-is}
 use Rattle.iommufd.proofs.Dispatching.{page-pos, not-zero, by-command, sized, ranges-left}
 use borrow.Author.Needs.{needs}
-use Rattle.iommufd.proofs.answer.Statement.{statement}
-use Rattle.iommufd.proofs.answer.Tie as tie
+use Rattle.iommufd.proofs.decide_command.Statement.{statement}
+use Rattle.iommufd.proofs.decide_command.Tie as tie
 
 enum-told : tie.Need-enum-told
 enum-told c = search needs
@@ -144,8 +144,8 @@ same-length-9 c = search needs
 returns-7 : tie.Need-returns-7
 returns-7 c = let a = (c .before .before .before .before .before .before .before .before .before .before .before .before .before .before .before .args) in let os = objectsIn (a .h .now) in let ms = recordsOf (a .ws .now) in let t = tableWith (headIn (a .h .now) .limit) os ms in let k = (c .before .before .before .before .before .before .before .before .before .before .before .before .before .before .before .pre) .1 in by-command t _ _ _ _ _ (a .c) Unmap ((c .before .before .before .before .before .before .before .enum-told7) .given .1) ((c .before .before .unmap .ensures) .0 os (page-known os _ _ ((c .before .before .before .before .page-of5 .ensures) ∙ ap (pageOf (a .pages .now)) (c .before .before .before .before .before .read326 .ensures) ∙ page-is os (a .pages .now) (k .aligned) _)), (c .before .before .unmap .ensures) .1, refl)
 
-pub answer-spec : {M : Type 1} → statement M
-answer-spec =
+pub decide-command-spec : {M : Type 1} → statement M
+decide-command-spec =
     tie.close
     (tie.spec
     enum-told
