@@ -27,7 +27,12 @@ ask-of-requires : tie.Need-ask-of-requires
 ask-of-requires c κs = search needs
 
 returns : tie.Need-returns
-returns c = turned (objectsIn (c .before .before .before .before .before .before .args .h .now)) (c .before .before .before .before .before .before .args .i) (objects-long (c .before .before .before .before .before .before .args .h .now)) _ _ _ (c .before .before .before .before .before .kind-at .ensures) (c .before .bitmap-at .ensures) (c .before .before .before .before .object-good .ensures) (c .before .before .before .is-free .ensures) (c .before .before .slot-of .ensures .0) (c .before .before .slot-of .ensures .1) (c .ask-of .ensures)
+returns c =
+    turned (objectsIn (c .before .before .before .before .before .before .args .h .now)) (c .before .before .before .before .before .before .args .i)
+    (objects-long (c .before .before .before .before .before .before .args .h .now)) _ _ _
+    (c .before .before .before .before .before .kind-at .ensures) (c .before .bitmap-at .ensures)
+    (c .before .before .before .before .object-good .ensures) (c .before .before .before .is-free .ensures) (c .before .before .slot-of .ensures .0)
+    (c .before .before .slot-of .ensures .1) (c .ask-of .ensures)
 
 pub judge-spec : {M : Type 1} → statement M
 judge-spec =

@@ -30,7 +30,9 @@ part-result-end : tie.Need-part-result-end
 part-result-end c = search needs
 
 returns : tie.Need-returns
-returns c = allow-part (c .before .before .args .h .now) (c .before .before .args .i) (c .before .before .pre) (search needs) (27 * c .before .before .args .i + 1 + 11) (27 * c .before .before .args .i + 1 + 27) (omega arith) (omega arith)
+returns c =
+    allow-part (c .before .before .args .h .now) (c .before .before .args .i) (c .before .before .pre) (search needs)
+    (27 * c .before .before .args .i + 1 + 11) (27 * c .before .before .args .i + 1 + 27) (omega arith) (omega arith)
 
 pub allow-at-spec : {M : Type 1} → statement M
 allow-at-spec =

@@ -27,7 +27,16 @@ both-requires c κs = search needs
 
 returns : tie.Need-returns
 unfolding allowRest
-returns c = rw (c .both .ensures, c .before .zero-from2 .ensures, c .before .before .before .zero-from .ensures, c .before .before .ends-at .ensures .0, c .before .before .before .before .froms-at .ensures .0, c .before .before .before .before .before .used .ensures, c .before .before .before .before .before .before .allows-at .ensures)
+returns c =
+    rw (
+      c .both .ensures,
+      c .before .zero-from2 .ensures,
+      c .before .before .before .zero-from .ensures,
+      c .before .before .ends-at .ensures .0,
+      c .before .before .before .before .froms-at .ensures .0,
+      c .before .before .before .before .before .used .ensures,
+      c .before .before .before .before .before .before .allows-at .ensures,
+    )
 
 pub allow-rest-spec : {M : Type 1} → statement M
 allow-rest-spec =

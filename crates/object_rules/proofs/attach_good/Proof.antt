@@ -16,10 +16,18 @@ enum-known-a : tie.Need-enum-known-a
 enum-known-a c = search needs
 
 returns : tie.Need-returns
-returns c = attach-low (objectsIn (c .before .before .before .before .args .h .now)) (getD (objectsIn (c .before .before .before .before .args .h .now)) (c .before .before .before .before .args .i) zeroObject) _ _ (c .before .before .a .given .1) (omega arith)
+returns c =
+    let a = c .before .before .before .before .args in
+    attach-low (objectsIn (a .h .now))
+    (getD (objectsIn (a .h .now)) (a .i) zeroObject) _ _
+    (c .before .before .a .given .1) (omega arith)
 
 returns-2 : tie.Need-returns-2
-returns-2 c = attach-high (objectsIn (c .before .before .before .before .before .args .h .now)) (getD (objectsIn (c .before .before .before .before .before .args .h .now)) (c .before .before .before .before .before .args .i) zeroObject) _ _ (c .before .before .before .a .given .1) (omega arith)
+returns-2 c =
+    let a = c .before .before .before .before .before .args in
+    attach-high (objectsIn (a .h .now))
+    (getD (objectsIn (a .h .now)) (a .i) zeroObject) _ _
+    (c .before .before .before .a .given .1) (omega arith)
 
 cast-home-good : tie.Need-cast-home-good
 cast-home-good c = search needs
@@ -31,7 +39,11 @@ returns-3 : tie.Need-returns-3
 returns-3 c = search needs
 
 returns-4 : tie.Need-returns-4
-returns-4 c = c .home-good .ensures ∙ attach-in (objectsIn (c .before .before .before .before .before .before .args .h .now)) (getD (objectsIn (c .before .before .before .before .before .before .args .h .now)) (c .before .before .before .before .before .before .args .i) zeroObject) _ _ (c .before .before .before .before .a .given .1) (omega arith) (omega arith)
+returns-4 c =
+    let a = c .before .before .before .before .before .before .args in
+    c .home-good .ensures ∙ attach-in (objectsIn (a .h .now))
+    (getD (objectsIn (a .h .now)) (a .i) zeroObject)
+    _ _ (c .before .before .before .before .a .given .1) (omega arith) (omega arith)
 
 pub attach-good-spec : {M : Type 1} → statement M
 attach-good-spec =

@@ -14,13 +14,23 @@ device-valid-requires : tie.Need-device-valid-requires
 device-valid-requires c κs = search needs
 
 returns : tie.Need-returns
-returns c = device-failed (getD (objectsIn (c .before .before .args .h .now)) (placeBy (c .before .before .args .a)) zeroObject) (getD (objectsIn (c .before .before .args .h .now)) (c .before .before .args .i) zeroObject) (c .before .before .args .a) (sym (c .before .device-valid .ensures) ∙ not-true _ (c .if1 .taken))
+returns c =
+    let a = c .before .before .args in
+    device-failed (getD (objectsIn (a .h .now)) (placeBy (a .a)) zeroObject)
+    (getD (objectsIn (a .h .now)) (a .i) zeroObject) (a .a)
+    (sym (c .before .device-valid .ensures) ∙ not-true _ (c .if1 .taken))
 
 attach-good-requires : tie.Need-attach-good-requires
 attach-good-requires c κs = search needs
 
 returns-2 : tie.Need-returns-2
-returns-2 c = attach-failed (getD (objectsIn (c .before .before .before .before .args .h .now)) (placeBy (c .before .before .before .before .args .a)) zeroObject) (getD (objectsIn (c .before .before .before .before .args .h .now)) (c .before .before .before .before .args .i) zeroObject) (c .before .before .before .before .args .a) (sym (c .before .before .before .device-valid .ensures) ∙ not-false _ (c .before .before .if1 .left)) (sym (c .before .attach-good .ensures) ∙ not-true _ (c .if2 .taken))
+returns-2 c =
+    let a = c .before .before .before .before .args in
+    attach-failed
+    (getD (objectsIn (a .h .now)) (placeBy (a .a)) zeroObject)
+    (getD (objectsIn (a .h .now)) (a .i) zeroObject)
+    (a .a) (sym (c .before .before .before .device-valid .ensures) ∙ not-false _ (c .before .before .if1 .left))
+    (sym (c .before .attach-good .ensures) ∙ not-true _ (c .if2 .taken))
 
 reserved-rest-requires : tie.Need-reserved-rest-requires
 reserved-rest-requires c κs = search needs
@@ -32,7 +42,19 @@ both-requires : tie.Need-both-requires
 both-requires c κs = search needs
 
 returns-3 : tie.Need-returns-3
-returns-3 c = rw (c .both .ensures, c .before .no-list .ensures, c .before .before .reserved-rest .ensures) (device-rest (getD (objectsIn (c .before .before .before .before .before .before .before .args .h .now)) (placeBy (c .before .before .before .before .before .before .before .args .a)) zeroObject) (getD (objectsIn (c .before .before .before .before .before .before .before .args .h .now)) (c .before .before .before .before .before .before .before .args .i) zeroObject) (c .before .before .before .before .before .before .before .args .a) (sym (c .before .before .before .before .before .before .device-valid .ensures) ∙ not-false _ (c .before .before .before .before .before .if1 .left)) (sym (c .before .before .before .before .attach-good .ensures) ∙ not-false _ (c .before .before .before .if2 .left)))
+returns-3 c =
+    let a = c .before .before .before .before .before .before .before .args in
+    rw (
+      c .both .ensures,
+      c .before .no-list .ensures,
+      c .before .before .reserved-rest .ensures,
+    )
+    (device-rest
+    (getD (objectsIn (a .h .now)) (placeBy (a .a)) zeroObject)
+    (getD (objectsIn (a .h .now)) (a .i) zeroObject)
+    (a .a)
+    (sym (c .before .before .before .before .before .before .device-valid .ensures) ∙ not-false _ (c .before .before .before .before .before .if1 .left))
+    (sym (c .before .before .before .before .attach-good .ensures) ∙ not-false _ (c .before .before .before .if2 .left)))
 
 pub device-good-spec : {M : Type 1} → statement M
 device-good-spec =

@@ -1,9 +1,6 @@
 -- The tests in order.
 use Rattle.rangelists.specs.Listed.{reserved}
 use Rattle.table.specs.Fitting.{device-fits}
-use lib.ListN.{getD}
-use Rattle.rules_table.specs.Records.{zeroObject}
-use Rattle.rules_table.specs.Words.{objectsIn}
 use borrow.Author.Needs.{needs}
 use Rattle.object_rules.proofs.device_valid.Statement.{statement}
 use Rattle.object_rules.proofs.device_valid.Tie as tie
@@ -40,7 +37,19 @@ both-requires-3 c κs = search needs
 
 returns : tie.Need-returns
 unfolding reserved
-returns c = rw (c .both3 .ensures, c .before .both2 .ensures, c .before .before .both .ensures, c .before .before .before .all-valid .ensures, c .before .before .before .before .lasts-at .ensures .0, c .before .before .before .before .before .starts-at .ensures .0, c .before .before .before .before .before .before .used .ensures, c .before .before .before .before .before .before .before .smallest-page .ensures, c .before .before .before .before .before .before .before .before .reserves-at .ensures, c .before .before .before .before .before .before .before .before .before .bitmap-at .ensures) (device-fits (getD (objectsIn (c .before .before .before .before .before .before .before .before .before .before .args .h .now)) (c .before .before .before .before .before .before .before .before .before .before .args .i) zeroObject))
+returns c =
+    rw (
+      c .both3 .ensures,
+      c .before .both2 .ensures,
+      c .before .before .both .ensures,
+      c .before .before .before .all-valid .ensures,
+      c .before .before .before .before .lasts-at .ensures .0,
+      c .before .before .before .before .before .starts-at .ensures .0,
+      c .before .before .before .before .before .before .used .ensures,
+      c .before .before .before .before .before .before .before .smallest-page .ensures,
+      c .before .before .before .before .before .before .before .before .reserves-at .ensures,
+      c .before .before .before .before .before .before .before .before .before .bitmap-at .ensures,
+    ) (device-fits _)
 
 pub device-valid-spec : {M : Type 1} → statement M
 device-valid-spec =

@@ -1,9 +1,6 @@
 -- The tests in order.
 use Rattle.rangelists.specs.Listed.{allowed}
 use Rattle.table.specs.Fitting.{list-fits}
-use lib.ListN.{getD}
-use Rattle.rules_table.specs.Records.{zeroObject}
-use Rattle.rules_table.specs.Words.{objectsIn}
 use borrow.Author.Needs.{needs}
 use Rattle.object_rules.proofs.list_valid.Statement.{statement}
 use Rattle.object_rules.proofs.list_valid.Tie as tie
@@ -40,7 +37,19 @@ both-requires-2 c κs = search needs
 
 returns : tie.Need-returns
 unfolding allowed
-returns c = rw (c .both2 .ensures, c .before .both .ensures, c .before .before .some-overlap .ensures, c .before .before .before .ends-at2 .ensures .0, c .before .before .before .before .froms-at2 .ensures .0, c .before .before .before .before .before .all-valid .ensures, c .before .before .before .before .before .before .ends-at .ensures .0, c .before .before .before .before .before .before .before .froms-at .ensures .0, c .before .before .before .before .before .before .before .before .used .ensures, c .before .before .before .before .before .before .before .before .before .allows-at .ensures) (list-fits (getD (objectsIn (c .before .before .before .before .before .before .before .before .before .before .args .h .now)) (c .before .before .before .before .before .before .before .before .before .before .args .i) zeroObject))
+returns c =
+    rw (
+      c .both2 .ensures,
+      c .before .both .ensures,
+      c .before .before .some-overlap .ensures,
+      c .before .before .before .ends-at2 .ensures .0,
+      c .before .before .before .before .froms-at2 .ensures .0,
+      c .before .before .before .before .before .all-valid .ensures,
+      c .before .before .before .before .before .before .ends-at .ensures .0,
+      c .before .before .before .before .before .before .before .froms-at .ensures .0,
+      c .before .before .before .before .before .before .before .before .used .ensures,
+      c .before .before .before .before .before .before .before .before .before .allows-at .ensures,
+    ) (list-fits _)
 
 pub list-valid-spec : {M : Type 1} → statement M
 list-valid-spec =

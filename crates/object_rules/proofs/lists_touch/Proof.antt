@@ -33,7 +33,18 @@ ranges-touch-requires c κs = search needs
 
 returns : tie.Need-returns
 unfolding reserved allowed
-returns c = rw (c .ranges-touch .ensures, c .before .ends-at .ensures .0, c .before .before .froms-at .ensures .0, c .before .before .before .lasts-at .ensures .0, c .before .before .before .before .starts-at .ensures .0, c .before .before .before .before .before .used2 .ensures, c .before .before .before .before .before .before .allows-at .ensures, c .before .before .before .before .before .before .before .used .ensures, c .before .before .before .before .before .before .before .before .reserves-at .ensures)
+returns c =
+    rw (
+      c .ranges-touch .ensures,
+      c .before .ends-at .ensures .0,
+      c .before .before .froms-at .ensures .0,
+      c .before .before .before .lasts-at .ensures .0,
+      c .before .before .before .before .starts-at .ensures .0,
+      c .before .before .before .before .before .used2 .ensures,
+      c .before .before .before .before .before .before .allows-at .ensures,
+      c .before .before .before .before .before .before .before .used .ensures,
+      c .before .before .before .before .before .before .before .before .reserves-at .ensures,
+    )
 
 pub lists-touch-spec : {M : Type 1} → statement M
 lists-touch-spec =

@@ -23,7 +23,14 @@ both-requires-2 : tie.Need-both-requires-2
 both-requires-2 c κs = search needs
 
 returns : tie.Need-returns
-returns c = rw (c .both2 .ensures, c .before .both .ensures, c .before .before .before .before .reserves-at .ensures, c .before .before .before .before .before .bitmap-at .ensures) (no-device _ _ _ (c .before .before .before .reserved-at .ensures) (c .before .before .zero-from .ensures))
+returns c =
+    rw (
+      c .both2 .ensures,
+      c .before .both .ensures,
+      c .before .before .before .before .reserves-at .ensures,
+      c .before .before .before .before .before .bitmap-at .ensures,
+    )
+    (no-device _ _ _ (c .before .before .before .reserved-at .ensures) (c .before .before .zero-from .ensures))
 
 pub no-device-spec : {M : Type 1} → statement M
 no-device-spec =

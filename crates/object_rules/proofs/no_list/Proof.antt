@@ -17,7 +17,12 @@ both-requires : tie.Need-both-requires
 both-requires c κs = search needs
 
 returns : tie.Need-returns
-returns c = rw (c .both .ensures, c .before .before .before .allows-at .ensures) (no-list _ _ _ (c .before .before .allow-at .ensures) (c .before .zero-from .ensures))
+returns c =
+    rw (
+      c .both .ensures,
+      c .before .before .before .allows-at .ensures,
+    )
+    (no-list _ _ _ (c .before .before .allow-at .ensures) (c .before .zero-from .ensures))
 
 pub no-list-spec : {M : Type 1} → statement M
 no-list-spec =

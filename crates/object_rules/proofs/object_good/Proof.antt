@@ -1,5 +1,4 @@
 -- The rules of each kind, in order.
-use mathlib.Core.Path.{_∙_}
 use Rattle.object_rules.proofs.Judging.{free-kind, space-kind, device-kind}
 use lib.ListN.{getD}
 use Rattle.rules_table.specs.Records.{zeroObject}
@@ -45,13 +44,31 @@ device-good-requires : tie.Need-device-good-requires
 device-good-requires c κs = search needs
 
 returns : tie.Need-returns
-returns c = rw (c .both .ensures, c .before .no-list .ensures, c .before .before .no-device .ensures) (free-kind (objectsIn (c .before .before .before .before .before .args .h .now)) (getD (objectsIn (c .before .before .before .before .before .args .h .now)) (c .before .before .before .before .before .args .i) zeroObject) (c .before .before .before .before .before .args .k) (c .before .before .before .enum-told .given .1))
+returns c =
+    let a = c .before .before .before .before .before .args in
+    rw (
+      c .both .ensures,
+      c .before .no-list .ensures,
+      c .before .before .no-device .ensures,
+    )
+    (free-kind (objectsIn (a .h .now)) (getD (objectsIn (a .h .now)) (a .i) zeroObject) (a .k) (c .before .before .before .enum-told .given .1))
 
 returns-2 : tie.Need-returns-2
-returns-2 c = rw (c .both3 .ensures, c .before .both2 .ensures, c .before .before .allow-rest .ensures, c .before .before .before .no-device2 .ensures, c .before .before .before .before .list-valid .ensures) (space-kind (objectsIn (c .before .before .before .before .before .before .before .args .h .now)) (getD (objectsIn (c .before .before .before .before .before .before .before .args .h .now)) (c .before .before .before .before .before .before .before .args .i) zeroObject) (c .before .before .before .before .before .before .before .args .k) (c .before .before .before .before .before .enum-told2 .given .1))
+returns-2 c =
+    let a = c .before .before .before .before .before .before .before .args in
+    rw (
+      c .both3 .ensures,
+      c .before .both2 .ensures,
+      c .before .before .allow-rest .ensures,
+      c .before .before .before .no-device2 .ensures,
+      c .before .before .before .before .list-valid .ensures,
+    )
+    (space-kind (objectsIn (a .h .now)) (getD (objectsIn (a .h .now)) (a .i) zeroObject) (a .k) (c .before .before .before .before .before .enum-told2 .given .1))
 
 returns-3 : tie.Need-returns-3
-returns-3 c = c .device-good .ensures ∙ device-kind (objectsIn (c .before .before .before .before .args .h .now)) (getD (objectsIn (c .before .before .before .before .args .h .now)) (c .before .before .before .before .args .i) zeroObject) (c .before .before .before .before .args .k) _ (c .before .before .k .given .1)
+returns-3 c =
+    let a = c .before .before .before .before .args in
+    rw (c .device-good .ensures) (device-kind (objectsIn (a .h .now)) (getD (objectsIn (a .h .now)) (a .i) zeroObject) (a .k) _ (c .before .before .k .given .1))
 
 pub object-good-spec : {M : Type 1} → statement M
 object-good-spec =

@@ -27,7 +27,16 @@ both-requires c κs = search needs
 
 returns : tie.Need-returns
 unfolding reservedRest
-returns c = rw (c .both .ensures, c .before .zero-from2 .ensures, c .before .before .before .zero-from .ensures, c .before .before .lasts-at .ensures .0, c .before .before .before .before .starts-at .ensures .0, c .before .before .before .before .before .used .ensures, c .before .before .before .before .before .before .reserves-at .ensures)
+returns c =
+    rw (
+      c .both .ensures,
+      c .before .zero-from2 .ensures,
+      c .before .before .before .zero-from .ensures,
+      c .before .before .lasts-at .ensures .0,
+      c .before .before .before .before .starts-at .ensures .0,
+      c .before .before .before .before .before .used .ensures,
+      c .before .before .before .before .before .before .reserves-at .ensures,
+    )
 
 pub reserved-rest-spec : {M : Type 1} → statement M
 reserved-rest-spec =
