@@ -73,12 +73,15 @@ pub fn object_at(h: &[u64; 865], i: usize) -> Object
     layout::decode(raw_at(h, 27 * i + 1))
 }
 
-// Its kind alone.
+// Its kind alone. Most records are free, and a word of 0 is not taken apart.
 pub fn kind_at(h: &[u64; 865], i: usize) -> Kind
     requires { ⌜ i < 32 ⌝ }
     ensures { λ k. ⌜ k ≡ getD (objectsIn (now (h .entry))) i zeroObject .kind ⌝ }
 {
     let w = h[27 * i + 1];
+    if w == 0 {
+        return Kind::Free;
+    }
     let kind = layout::low(w);
     let home = layout::high(w);
     layout::kind_of(kind, home)

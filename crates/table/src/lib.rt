@@ -91,12 +91,18 @@ pub fn is_touched(m: Mapping, s: u32, r: Range) -> bool
     checks::both(m.space == s, ranges::shares(r, q))
 }
 
-// Whether it is a mapping of space s and lies wholly inside r.
+// Whether it is a mapping of space s and lies wholly inside r. Most are told by their space or their start, before the last address is reckoned.
 pub fn is_within(m: Mapping, s: u32, r: Range) -> bool
     ensures { λ b. ⌜ b ≡ within s r m ⌝ }
 {
+    if m.space != s {
+        return false;
+    }
+    if m.address < r.start {
+        return false;
+    }
     let q = ranges::span_of(m.address, m.length);
-    checks::both(m.space == s, ranges::is_inside(q, r))
+    ranges::is_inside(q, r)
 }
 
 pub fn can_write(m: Mapping) -> bool

@@ -10,7 +10,8 @@ use Rattle.layout_objects.specs.Slots.{objects-long}
 use Rattle.layout_mappings.specs.Words.{recordsOf}
 use Rattle.check_mappings.specs.Told.{pageOf}
 use Rattle.check_table.specs.Known.{page-is}
-use Rattle.iommufd.proofs.Dispatching.{page-pos, not-zero, by-command, sized, ranges-left}
+use Rattle.lists.specs.Tests.{not-zero}
+use Rattle.iommufd.proofs.Dispatching.{page-pos, by-command, sized, ranges-left}
 use borrow.Author.Needs.{needs}
 use Rattle.iommufd.proofs.decide_command.Statement.{statement}
 use Rattle.iommufd.proofs.decide_command.Tie as tie
