@@ -56,7 +56,7 @@ fn next_used(ws: &[[u64; 5]], from: usize) -> usize
 }
 
 // The rules of a record in use, given the alignment of its space: the first that is broken ends it.
-// A length of 0 wraps and is too long; a sum that wraps is below its parts.
+// A length of 0 wraps and is too long; bytes that begin above the top would pass U64MAX.
 fn is_right(page: u64, m: Mapping) -> bool
     ensures { λ b. ⌜ b ≡ sound page m ⌝ }
 {
@@ -85,10 +85,11 @@ fn is_right(page: u64, m: Mapping) -> bool
     if 0xFF_FFFF_FFFF < n {
         return false;
     }
-    if std::num::wrapping_add_u64(m.address, n) < m.address {
+    let top = ranges::U64MAX - n;
+    if top < m.address {
         return false;
     }
-    if std::num::wrapping_add_u64(m.memory, n) < m.memory {
+    if top < m.memory {
         return false;
     }
     alignment::is_fit(page, m.address, m.length)

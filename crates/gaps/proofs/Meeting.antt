@@ -6,12 +6,15 @@ use mathlib.Core.List.{List, []}
 use native.Mathlib.Omega.{arith}
 use lib.Dec.{leb, ltb, eqb}
 use lib.ListN.{length, getD}
-use borrow.Author.Tests.{le-leb, lt-leb, lt-ltb, le-ltb, ltb-true, eqb-true, eq-eqb, ne-eqb}
+use borrow.Author.Tests.{leb-true, le-leb, lt-leb, lt-ltb, le-ltb, ltb-true, eqb-true, eq-eqb, ne-eqb}
 use Rattle.lists.specs.Tests.{contrary, and-left, and-right, and-both, and-not-left, and-not-right}
 use Rattle.ranges.specs.declared.Range.{Range}
-use Rattle.ranges.specs.Ranges.{span, lastOf}
+use Rattle.ranges.specs.Ranges.{U64MAX, share, sharedStart, sharedLast, span, lastOf, span-some}
 use Rattle.alignment.specs.declared.Spot.{Spot}
+use Rattle.alignment.specs.declared.Spot.the-variants.{Nowhere, At}
+use Rattle.alignment.specs.Multiples.{lowestMultiple}
 use Rattle.placement.specs.Jumps.{pastOf, Swept}
+use Rattle.placement.specs.Sweeping.{past-here, past-end, past-on}
 use Rattle.rules_table.specs.declared.Mapping.{Mapping}
 use Rattle.rules_table.specs.Records.{zeroMapping, ofSpace, extent}
 use Rattle.rules_table.specs.Words.{low}
@@ -58,6 +61,44 @@ module _ (ls : List Mapping) (n k s x : ℕ) (l : length ls ≡ n) where
   pub met-lt : (b : Bool) → b ≡ meets ls k s x → b ≡ true → k < n
   unfolding meets
   met-lt b e f = omega (arith, l, ltb-true k (length ls) (and-left (ltb k (length ls)) (beginsBy s x (getD ls k zeroMapping)) (sym e ∙ f)))
+
+  -- it begins by x
+  pub met-begins : (b : Bool) → b ≡ meets ls k s x → b ≡ true → (q : Range) (m : Mapping) → m ≡ getD ls k zeroMapping → q ≡ extent m → q .start ≤ x
+  unfolding meets beginsBy extent span
+  met-begins b e f q m g h =
+      let v = and-right (ltb k (length ls)) (ofSpace s (getD ls k zeroMapping) && leb (getD ls k zeroMapping .address) x) (sym e ∙ f) in
+      let w = leb-true (getD ls k zeroMapping .address) x (and-right (ofSpace s (getD ls k zeroMapping)) (leb (getD ls k zeroMapping .address) x) v) in
+      omega (arith, w, ap (λ (r : Range). r .start) h, ap (λ (y : Mapping). y .address) g)
+
+-- ---- past a mapping that is met
+
+-- a range that begins by the last of the bytes is touched exactly if it ends at their start or above
+module _ (a n x : ℕ) (q : Range) where
+  ends-before : q .last < x → share (span x n) q ≡ false
+  unfolding share sharedStart sharedLast span
+  ends-before h = lt-leb (sharedStart (span x n) q) (sharedLast (span x n) q) (omega arith)
+
+  pub past-behind : q .last < x → At x ≡ pastOf a n x q
+  past-behind h = past-here a n x q (span x n) refl (share (span x n) q) refl (rw (ends-before h))
+
+  module _ (some : q .start ≤ q .last) (begins : q .start ≤ lastOf x n) (u : x ≤ U64MAX) (h : x ≤ q .last) where
+    reaches : share (span x n) q ≡ true
+    unfolding share sharedStart sharedLast span
+    reaches = le-leb (sharedStart (span x n) q) (sharedLast (span x n) q) (omega (arith, span-some x n u))
+
+    pub past-last : q .last ≡ U64MAX → Nowhere ≡ pastOf a n x q
+    past-last = past-end a n x q (span x n) refl (share (span x n) q) refl (rw reaches)
+
+    pub past-touched : (s : Spot) → s ≡ lowestMultiple a (q .last + 1) → s ≡ pastOf a n x q
+    past-touched s = past-on a n x q (span x n) refl (share (span x n) q) refl s (rw reaches)
+
+-- the range of a mapping holds its first address
+pub extent-some : (q : Range) (m : Mapping) → q ≡ extent m → q .start ≤ U64MAX → q .start ≤ q .last
+unfolding extent span
+extent-some q m e h =
+    let f : q .start ≡ m .address = ap (λ (r : Range). r .start) e in
+    let g : q .last ≡ lastOf (m .address) (m .length) = ap (λ (r : Range). r .last) e in
+    omega (arith, f, g, span-some (m .address) (m .length) (omega (arith, f, h)))
 
 -- ---- one step
 

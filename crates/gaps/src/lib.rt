@@ -5,8 +5,10 @@ ghost use mathlib.Core.List.{[], _∷_};
 ghost use Prim.Native.Nat.{_≤_, _<_};
 ghost use lib.Dec.{eqb};
 ghost use lib.ListN.{length, getD, take};
+ghost use Rattle.ranges.specs.Ranges.{lastOf};
 ghost use Rattle.alignment.specs.Multiples.{spotOf};
 ghost use Rattle.placement.specs.Candidates.{placeOf};
+ghost use Rattle.placement.specs.Jumps.{pastOf};
 ghost use Rattle.rules_table.specs.Records.{zeroMapping, extent};
 ghost use Rattle.rules_table.specs.Spaces.{reservedOf};
 ghost use Rattle.rules_table.specs.Words.{objectsIn};
@@ -93,6 +95,20 @@ fn entry_of<'a>(ws: &'a [[u64; 5]], ix: &'a [u64], n: usize, s: u32, x: u64) -> 
     p - 1
 }
 
+// The next place from x on at which a range that begins by the last of the bytes is not touched. Whether it is touched, its last address alone tells.
+fn past_met(w: Want, x: u64, q: Range) -> Spot
+    requires { ⌜ (q .start ≤ q .last) × (q .start ≤ lastOf x (w .length)) ⌝ }
+    ensures { λ r. ⌜ r ≡ pastOf (w .alignment) (w .length) x q ⌝ }
+{
+    if q.last < x {
+        return Spot::At(x);
+    }
+    if q.last == ranges::U64MAX {
+        return Spot::Nowhere;
+    }
+    alignment::lowest_multiple(w.alignment, q.last + 1)
+}
+
 // One step: past the mapping at place k where the bytes from x on meet it, else past the reserved ranges that they touch.
 fn go_on<'a>(
     h: &'a [u64; 865],
@@ -109,7 +125,7 @@ fn go_on<'a>(
         (r .spot) (r .place) (r .jumps) ⌝ }
 {
     if is_met(ws, ix, n, k, s, ranges::last_of(x, w.length)) {
-        let spot = placement::past(w, x, extent_at(ws, slot_of(ws, ix, n, k)));
+        let spot = past_met(w, x, extent_at(ws, slot_of(ws, ix, n, k)));
         return Step {
             spot,
             place: k + 1,

@@ -31,23 +31,20 @@ wrapping-sub-u64-requires c κs = search needs
 returns-8 : tie.Need-returns-8
 returns-8 c = let a = c .before .before .before .before .before .before .before .before .before .before .before .before .before .before .before .before .args in not-right (a .page) (a .m) (λ r. omega (arith, r .long, r .short, c .before .wrapping-sub-u64 .ensures, c .if8 .taken))
 
-wrapping-add-u64-requires : tie.Need-wrapping-add-u64-requires
-wrapping-add-u64-requires c κs = search needs
+sub-top : tie.Need-sub-top
+sub-top c = search needs
 
 returns-9 : tie.Need-returns-9
-returns-9 c = let a = c .before .before .before .before .before .before .before .before .before .before .before .before .before .before .before .before .before .before .before .args in not-right (a .page) (a .m) (λ r. omega (arith, r .ends, r .long, r .short, c .before .before .before .before .wrapping-sub-u64 .ensures, c .before .before .wrapping-add-u64 .ensures, c .if9 .taken))
-
-wrapping-add-u64-requires-2 : tie.Need-wrapping-add-u64-requires-2
-wrapping-add-u64-requires-2 c κs = search needs
+returns-9 c = let a = c .before .before .before .before .before .before .before .before .before .before .before .before .before .before .before .before .before .before .args in not-right (a .page) (a .m) (λ r. omega (arith, r .ends, r .long, r .short, c .before .before .before .wrapping-sub-u64 .ensures, c .if9 .taken))
 
 returns-10 : tie.Need-returns-10
-returns-10 c = let a = c .before .before .before .before .before .before .before .before .before .before .before .before .before .before .before .before .before .before .before .before .before .before .args in not-right (a .page) (a .m) (λ r. omega (arith, r .holds, r .long, r .short, c .before .before .before .before .before .before .before .wrapping-sub-u64 .ensures, c .before .before .wrapping-add-u642 .ensures, c .if10 .taken))
+returns-10 c = let a = c .before .before .before .before .before .before .before .before .before .before .before .before .before .before .before .before .before .before .before .before .args in not-right (a .page) (a .m) (λ r. omega (arith, r .holds, r .long, r .short, c .before .before .before .before .before .wrapping-sub-u64 .ensures, c .if10 .taken))
 
 is-fit-requires : tie.Need-is-fit-requires
 is-fit-requires c κs = search needs
 
 returns-11 : tie.Need-returns-11
-returns-11 c = let a = c .before .before .before .before .before .before .before .before .before .before .before .before .before .before .before .before .before .before .before .before .before .before .before .args in right-even (a .page) (a .m) _ (c .is-fit .ensures) (λ h. record { some = c .before .before .before .before .before .before .before .before .before .before .before .before .before .before .before .before .before .before .before .before .before .before .if1 .left; founder = omega (arith, c .before .before .before .before .before .before .before .before .before .before .before .before .before .before .before .before .before .before .before .before .if2 .left); writes = omega (arith, c .before .before .before .before .before .before .before .before .before .before .before .before .before .before .before .before .before .if3 .left); first = omega (arith, c .before .before .before .before .before .before .before .before .before .before .before .before .before .before .before .if4 .left); both = omega (arith, c .before .before .before .before .before .before .before .before .before .before .before .before .before .if5 .left); from = omega (arith, c .before .before .before .before .before .before .before .before .before .before .before .if6 .left); upto = omega (arith, c .before .before .before .before .before .before .before .before .before .if7 .left); long = omega (arith, c .before .before .before .before .before .before .before .before .wrapping-sub-u64 .ensures, c .before .before .before .before .before .before .before .if8 .left); short = omega (arith, c .before .before .before .before .before .before .before .before .wrapping-sub-u64 .ensures, c .before .before .before .before .before .before .before .if8 .left); ends = omega (arith, c .before .before .before .before .before .before .before .before .wrapping-sub-u64 .ensures, c .before .before .before .before .before .before .before .if8 .left, c .before .before .before .before .before .before .wrapping-add-u64 .ensures, c .before .before .before .before .if9 .left); holds = omega (arith, c .before .before .before .before .before .before .before .before .wrapping-sub-u64 .ensures, c .before .before .before .before .before .before .before .if8 .left, c .before .before .before .wrapping-add-u642 .ensures, c .before .if10 .left); even = h })
+returns-11 c = let a = c .before .before .before .before .before .before .before .before .before .before .before .before .before .before .before .before .before .before .before .before .before .args in right-even (a .page) (a .m) _ (c .is-fit .ensures) (λ h. record { some = c .before .before .before .before .before .before .before .before .before .before .before .before .before .before .before .before .before .before .before .before .if1 .left; founder = omega (arith, c .before .before .before .before .before .before .before .before .before .before .before .before .before .before .before .before .before .before .if2 .left); writes = omega (arith, c .before .before .before .before .before .before .before .before .before .before .before .before .before .before .before .if3 .left); first = omega (arith, c .before .before .before .before .before .before .before .before .before .before .before .before .before .if4 .left); both = omega (arith, c .before .before .before .before .before .before .before .before .before .before .before .if5 .left); from = omega (arith, c .before .before .before .before .before .before .before .before .before .if6 .left); upto = omega (arith, c .before .before .before .before .before .before .before .if7 .left); long = omega (arith, c .before .before .before .before .before .before .wrapping-sub-u64 .ensures, c .before .before .before .before .before .if8 .left); short = omega (arith, c .before .before .before .before .before .before .wrapping-sub-u64 .ensures, c .before .before .before .before .before .if8 .left); ends = omega (arith, c .before .before .before .before .before .before .wrapping-sub-u64 .ensures, c .before .before .before .before .before .if8 .left, c .before .before .before .if9 .left); holds = omega (arith, c .before .before .before .before .before .before .wrapping-sub-u64 .ensures, c .before .before .before .before .before .if8 .left, c .before .if10 .left); even = h })
 
 pub is-right-spec : {M : Type 1} → statement M
 is-right-spec =
@@ -62,9 +59,8 @@ is-right-spec =
     returns-7
     wrapping-sub-u64-requires
     returns-8
-    wrapping-add-u64-requires
+    sub-top
     returns-9
-    wrapping-add-u64-requires-2
     returns-10
     is-fit-requires
     returns-11)

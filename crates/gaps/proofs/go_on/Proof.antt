@@ -6,7 +6,7 @@ use Rattle.layout_mappings.specs.Words.{recordsOf}
 use Rattle.rules_table.specs.Words.{objectsIn}
 use Rattle.rules_table.specs.Spaces.{reservedOf}
 use Rattle.index_search.specs.Indexed.{indexed-length}
-use Rattle.gaps.proofs.Meeting.{met-lt, step-met, step-swept}
+use Rattle.gaps.proofs.Meeting.{met-lt, met-begins, extent-some, step-met, step-swept}
 use borrow.Author.Needs.{needs}
 use Rattle.gaps.proofs.go_on.Statement.{statement}
 use Rattle.gaps.proofs.go_on.Tie as tie
@@ -23,14 +23,14 @@ slot-of-requires c κs = let a = c .before .before .before .before in (a .pre, m
 extent-at-requires : tie.Need-extent-at-requires
 extent-at-requires c κs = search needs
 
-past-requires : tie.Need-past-requires
-past-requires c κs = search needs
+past-met-requires : tie.Need-past-met-requires
+past-met-requires c κs = let a = c .before .before .before .before .before .before in (extent-some (c .extent-at .result) _ (c .extent-at .ensures) (omega arith), omega (arith, c .before .before .before .before .last-of .ensures, met-begins (view (take (a .args .n) (a .args .ix .now)) (recordsOf (a .args .ws .now))) (a .args .n) (a .args .k) (a .args .s) _ (indexed-length (a .args .n) (a .args .ix .now) (a .args .ws .now) (a .pre)) (c .before .before .before .is-met .result) (c .before .before .before .is-met .ensures) (c .before .before .if1 .taken) (c .extent-at .result) _ (c .before .slot-of .ensures .0) (c .extent-at .ensures)))
 
 add-t15 : tie.Need-add-t15
 add-t15 c = let a = c .before .before .before .before .before .before .before in omega (arith, a .pre .most, met-lt (view (take (a .args .n) (a .args .ix .now)) (recordsOf (a .args .ws .now))) (a .args .n) (a .args .k) (a .args .s) _ (indexed-length (a .args .n) (a .args .ix .now) (a .args .ws .now) (a .pre)) (c .before .before .before .before .is-met .result) (c .before .before .before .before .is-met .ensures) (c .before .before .before .if1 .taken))
 
 returns : tie.Need-returns
-returns c = let a = c .before .before .before .before .before .before .before in step-met (a .args .w .alignment) (a .args .w .length) (a .args .s) (view (take (a .args .n) (a .args .ix .now)) (recordsOf (a .args .ws .now))) (reservedOf (objectsIn (a .args .h .now)) (a .args .s)) (a .args .x) (a .args .k) (c .before .before .before .before .before .last-of .result) (c .before .before .before .before .is-met .result) (c .before .before .before .before .before .last-of .ensures) (c .before .before .before .before .is-met .ensures) (c .before .before .before .if1 .taken) (c .before .extent-at .result) (c .past .result) _ (c .before .before .slot-of .ensures .0) (c .before .extent-at .ensures) (c .past .ensures)
+returns c = let a = c .before .before .before .before .before .before .before in step-met (a .args .w .alignment) (a .args .w .length) (a .args .s) (view (take (a .args .n) (a .args .ix .now)) (recordsOf (a .args .ws .now))) (reservedOf (objectsIn (a .args .h .now)) (a .args .s)) (a .args .x) (a .args .k) (c .before .before .before .before .before .last-of .result) (c .before .before .before .before .is-met .result) (c .before .before .before .before .before .last-of .ensures) (c .before .before .before .before .is-met .ensures) (c .before .before .before .if1 .taken) (c .before .extent-at .result) (c .past-met .result) _ (c .before .before .slot-of .ensures .0) (c .before .extent-at .ensures) (c .past-met .ensures)
 
 sweep-requires : tie.Need-sweep-requires
 sweep-requires c κs = search needs
@@ -46,7 +46,7 @@ go-on-spec =
     is-met-requires
     slot-of-requires
     extent-at-requires
-    past-requires
+    past-met-requires
     add-t15
     returns
     sweep-requires

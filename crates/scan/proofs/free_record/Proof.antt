@@ -1,52 +1,19 @@
 use borrow.Author.Needs.{needs}
-use Prim.Native.Nat.{_-_, _≤_}
-use mathlib.Core.Path.{_≡_}
 use native.Mathlib.Omega.{arith}
-use lib.ListN.{length}
-use Rattle.rangelists.specs.Listed.{found}
-use Rattle.rules_table.specs.Charge.{freeMapping}
+use mathlib.Core.Path.{sym}
 use Rattle.layout_mappings.specs.Words.{recordsOf, records-length}
-use Rattle.scan.proofs.Surveying.{freeLeft, free-start, free-found, free-on, free-end}
+use Rattle.scan.proofs.Surveying.{free-at, free-nothing}
 use Rattle.scan.proofs.free_record.Statement.{statement}
 use Rattle.scan.proofs.free_record.Tie as tie
 
-abbrev Inv-loop : tie.InvT-loop
-Inv-loop ws i₀ i = (i ≤ length ws) × (freeLeft i (recordsOf ws) ≡ found (freeMapping (recordsOf ws)))
+first-free-requires : tie.Need-first-free-requires
+first-free-requires c κs = search needs
 
-abbrev μ-loop : tie.MeasureT-loop
-μ-loop ws i₀ i = length ws - i
+returns : tie.Need-returns
+returns c = let a = c .before .before .args in free-at (recordsOf (a .ws .now)) _ (c .before .first-free .result) (c .before .first-free .ensures) (omega (arith, c .if1 .taken))
 
-loop-holds : tie.Need-loop-holds Inv-loop μ-loop
-loop-holds c = (search needs, free-start (recordsOf (c .args .ws .now)))
-
-record-requires : tie.Need-record-requires Inv-loop μ-loop
-record-requires c κs = search needs
-
-returns : tie.Need-returns Inv-loop μ-loop
-returns c = let a = c .before .before .before .before .before .args in let l = c .before .before .before .before .loop in free-found (recordsOf (a .ws .now)) (l .i) (l .inv .1) (omega (arith, records-length (a .ws .now), c .before .before .before .loop-test .taken)) _ (c .before .before .«record» .ensures) (omega (arith, c .if1 .taken)) _ (omega arith)
-
-add-i : tie.Need-add-i Inv-loop μ-loop
-add-i c = search needs
-
-loop-less : tie.Need-loop-less Inv-loop μ-loop
-loop-less c = search needs
-
-loop-again : tie.Need-loop-again Inv-loop μ-loop
-loop-again c = let a = c .before .before .before .before .before .args in let l = c .before .before .before .before .loop in (search needs, free-on (recordsOf (a .ws .now)) (l .i) (l .inv .1) (omega (arith, records-length (a .ws .now), c .before .before .before .loop-test .taken)) _ (c .before .before .«record» .ensures) (c .if1 .left))
-
-returns-2 : tie.Need-returns-2 Inv-loop μ-loop
-returns-2 c = let a = c .before .before .args in let l = c .before .loop in free-end (recordsOf (a .ws .now)) (l .i) (l .inv .1) (omega (arith, records-length (a .ws .now), c .loop-test .left))
+returns-2 : tie.Need-returns-2
+returns-2 c = let a = c .before .before .args in free-nothing (recordsOf (a .ws .now)) _ (c .before .first-free .result) (c .before .first-free .ensures) (sym (records-length (a .ws .now))) (omega (arith, c .if1 .left))
 
 pub free-record-spec : {M : Type 1} → statement M
-free-record-spec =
-    tie.close
-    (tie.spec
-    Inv-loop
-    μ-loop
-    loop-holds
-    record-requires
-    returns
-    add-i
-    loop-less
-    loop-again
-    returns-2)
+free-record-spec = tie.close (tie.spec first-free-requires returns returns-2)
