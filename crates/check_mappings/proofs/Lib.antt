@@ -1,4 +1,5 @@
 pub mod Emptying
+pub mod Freeing
 pub mod Skipping
 pub mod Marking
 pub mod Ruling
