@@ -1,5 +1,5 @@
 -- What one step reads: the words of a record, and whether the mapping at a place is met.
-use Prim.Native.Nat.{ℕ, _+_, _≤_, _<_}
+use Prim.Native.Nat.{ℕ, _+_, _-_, _≤_, _<_}
 use mathlib.Core.Path.{_≡_, refl, sym, ap, subst, _∙_}
 use mathlib.Core.Bool.{Bool, true, false, _&&_}
 use mathlib.Core.List.{List, []}
@@ -101,6 +101,11 @@ extent-some q m e h =
     omega (arith, f, g, span-some (m .address) (m .length) (omega (arith, f, h)))
 
 -- ---- one step
+
+-- the last of the bytes, where there is room for them
+pub last-is : (x n m : ℕ) → m ≡ n - 1 → x + (n - 1) ≤ U64MAX → x + m ≡ lastOf x n
+unfolding lastOf
+last-is x n m e h = omega (arith, e, h)
 
 module _ (a size s : ℕ) (ls : List Mapping) (rs : List Range) (x k last : ℕ) (b : Bool) (e : last ≡ lastOf x size) (f : b ≡ meets ls k s last) where
   by : (c : Bool) → b ≡ c → c ≡ meets ls k s (lastOf x size)

@@ -13,7 +13,7 @@ use Rattle.lists.specs.Each.{Each-slots, any-Each-false}
 use Rattle.lists.specs.Sums.{countOf, countOf-length}
 use Rattle.lists.specs.Counting.{countOf-cons, countOf-none}
 use Rattle.ranges.specs.declared.Range.{Range}
-use Rattle.ranges.specs.Ranges.{share, sharedStart, sharedLast, inside, passes, passes-false, lastOf, span, span-some}
+use Rattle.ranges.specs.Ranges.{U64MAX, share, sharedStart, sharedLast, inside, passes, passes-false, lastOf, span, span-some}
 use Rattle.alignment.specs.declared.Spot.{Spot}
 use Rattle.alignment.specs.declared.Spot.the-variants.{Nowhere, At}
 use Rattle.alignment.specs.Multiples.{multiple, Lowest, lowest-unique, MultipleFrom, lowestMultiple, lowest-is, spotOf}
@@ -45,6 +45,10 @@ module _ (n x : ℕ) (w : Range) (e : roomAt n x w ≡ true) where
   room-window : inside (span x n) w ≡ true
   unfolding roomAt
   room-window = and-right (not (passes x n)) (inside (span x n) w) e
+
+-- as the walk asks it
+pub room-fits : (n x : ℕ) (w : Range) (b : Bool) → b ≡ roomAt n x w → not b ≡ false → x + (n - 1) ≤ U64MAX
+room-fits n x w b e f = passes-false x n (room-ends n x w (sym e ∙ not-false b f))
 
 room-of : (n x : ℕ) (w : Range) → passes x n ≡ false → inside (span x n) w ≡ true → roomAt n x w ≡ true
 unfolding roomAt

@@ -2,10 +2,10 @@
 ghost use mathlib.Core.Path.{_≡_};
 ghost use mathlib.Core.Bool.{_&&_};
 ghost use mathlib.Core.List.{[], _∷_};
-ghost use Prim.Native.Nat.{_≤_, _<_};
+ghost use Prim.Native.Nat.{_+_, _-_, _≤_, _<_};
 ghost use lib.Dec.{eqb};
 ghost use lib.ListN.{length, getD, take};
-ghost use Rattle.ranges.specs.Ranges.{lastOf};
+ghost use Rattle.ranges.specs.Ranges.{U64MAX, lastOf};
 ghost use Rattle.alignment.specs.Multiples.{spotOf};
 ghost use Rattle.placement.specs.Candidates.{placeOf};
 ghost use Rattle.placement.specs.Jumps.{pastOf};
@@ -109,7 +109,7 @@ fn past_met(w: Want, x: u64, q: Range) -> Spot
     alignment::lowest_multiple(w.alignment, q.last + 1)
 }
 
-// One step: past the mapping at place k where the bytes from x on meet it, else past the reserved ranges that they touch.
+// One step from an address with room: past the mapping at place k where the bytes from x on meet it, else past the reserved ranges that they touch.
 fn go_on<'a>(
     h: &'a [u64; 865],
     ws: &'a [[u64; 5]],
@@ -120,11 +120,12 @@ fn go_on<'a>(
     x: u64,
     k: usize,
 ) -> Step
-    requires { ⌜ Indexed n (now ix) (recordsOf (now ws)) ⌝ }
+    requires { ⌜ Indexed n (now ix) (recordsOf (now ws)) × (x + (w .length - 1) ≤ U64MAX) ⌝ }
     ensures { λ r. ⌜ Stepped (w .alignment) (w .length) s (view (take n (now (ix .entry))) (recordsOf (now (ws .entry)))) (reservedOf (objectsIn (now (h .entry))) s) x k
         (r .spot) (r .place) (r .jumps) ⌝ }
 {
-    if is_met(ws, ix, n, k, s, ranges::last_of(x, w.length)) {
+    let last = x + placement::behind(w.length);
+    if is_met(ws, ix, n, k, s, last) {
         let spot = past_met(w, x, extent_at(ws, slot_of(ws, ix, n, k)));
         return Step {
             spot,

@@ -1,19 +1,19 @@
 -- Jumps, one after another: the tests of one range, a pass over all of them, and how many ranges are left behind.
-use Prim.Native.Nat.{ℕ, zero, suc, _+_, _≤_, _<_, zero-le, min}
+use Prim.Native.Nat.{ℕ, zero, suc, _+_, _-_, _≤_, _<_, zero-le, min}
 use mathlib.Core.Path.{_≡_, refl, sym, ap, _∙_, subst}
-use mathlib.Core.Bool.{Bool, true, false, not}
+use mathlib.Core.Bool.{Bool, true, false, not, _&&_}
 use mathlib.Core.List.{List, [], _∷_}
 use native.Mathlib.Nat.{le-of-suc-le-suc, not-suc-le-zero}
 use native.Mathlib.Omega.{arith}
 use lib.Dec.{leb, ltb, eqb}
 use lib.ListN.{length, getD, drop}
 use borrow.Author.Tests.{leb-true, le-leb, lt-leb, le-ltb, ltb-true, ltb-false, eq-eqb, ne-eqb, not-true, not-false}
-use Rattle.lists.specs.Tests.{by-test, and-not-right, onlyIf, onlyIf-mono}
+use Rattle.lists.specs.Tests.{by-test, same-test, and-left, and-right, and-both, and-not-right, onlyIf, onlyIf-mono}
 use Rattle.lists.specs.Search.{any, any-false-at, any-on, any-end}
 use Rattle.lists.specs.Each.{Each-of}
 use Rattle.lists.specs.Sums.{sumOf, sumOf-le, countOf, countOf-length}
 use Rattle.ranges.specs.declared.Range.{Range}
-use Rattle.ranges.specs.Ranges.{U64MAX, range, share, inside, passes, passes-false, span}
+use Rattle.ranges.specs.Ranges.{U64MAX, range, share, inside, passes, passes-false, lastOf, lastOf-fits, span}
 use Rattle.alignment.specs.declared.Spot.{Spot}
 use Rattle.alignment.specs.declared.Spot.the-variants.{Nowhere, At}
 use Rattle.alignment.specs.Multiples.{multiple, roundUp, Lowest, MultipleFrom, lowestMultiple, lowest-is}
@@ -59,14 +59,27 @@ module _ (x y : ℕ) where
   unfolding jumpsTo
   jumps-most = by-test (eqb x y) (λ t. rw t (omega arith)) (λ t. rw t (omega arith))
 
-module _ (n x : ℕ) (w : Range) (t : Bool) (e : t ≡ passes x n) where
-  pub room-passed : t ≡ true → false ≡ roomAt n x w
-  unfolding roomAt
-  room-passed f = rw (sym e ∙ f)
+-- the last of the bytes is past that of the window, or it is not
+module _ (n x : ℕ) (w : Range) where
+  fits : x + (n - 1) ≤ U64MAX → passes x n ≡ false
+  unfolding passes
+  fits h = le-ltb U64MAX (x + (n - 1)) h
 
-  pub room-inside : (r : Range) (b : Bool) → t ≡ false → r ≡ span x n → b ≡ inside r w → b ≡ roomAt n x w
-  unfolding roomAt
-  room-inside r b f g h = rw (sym e ∙ f, ← g) h
+  pub room-over : w .last < x + (n - 1) → false ≡ roomAt n x w
+  unfolding roomAt inside span
+  room-over h =
+      sym (by-test (passes x n)
+      (λ e. rw e)
+      (λ e. and-not-right (not (passes x n)) (inside (span x n) w) (and-not-right (leb (w .start) x) (leb (lastOf x n) (w .last)) (lt-leb (lastOf x n) (w .last) (omega (arith, h, lastOf-fits x n e))))))
+
+  pub room-within : x + (n - 1) ≤ w .last → w .last ≤ U64MAX → leb (w .start) x ≡ roomAt n x w
+  unfolding roomAt inside span
+  room-within h k =
+      let p = fits (omega (arith, h, k)) in
+      let l = le-leb (lastOf x n) (w .last) (omega (arith, h, lastOf-fits x n p)) in
+      same-test (leb (w .start) x) (not (passes x n) && inside (span x n) w)
+      (λ t. and-both (not (passes x n)) (inside (span x n) w) (rw p) (and-both (leb (w .start) x) (leb (lastOf x n) (w .last)) t l))
+      (λ t. and-left (leb (w .start) x) (leb (lastOf x n) (w .last)) (and-right (not (passes x n)) (inside (span x n) w) t))
 
 module _ (r s : Spot) where
   pub lower-first : (x : ℕ) → r ≡ At x → s ≡ Nowhere → At x ≡ lowerOf r s

@@ -1,6 +1,6 @@
 // Where an automatic mapping goes: the lowest candidate. The search stands at a place and jumps past every range that it touches there.
 ghost use mathlib.Core.Path.{_≡_};
-ghost use Prim.Native.Nat.{_≤_};
+ghost use Prim.Native.Nat.{_-_, _≤_};
 ghost use lib.ListN.{length};
 ghost use Rattle.rangelists.specs.Listed.{listed};
 ghost use Rattle.placement.specs.Jumps.{pastOf, jumpsTo, Swept, roomAt, lowerOf};
@@ -71,14 +71,28 @@ pub fn sweep<'a>(starts: &'a [u64], lasts: &'a [u64], n: usize, w: Want, from: u
     }
 }
 
-// Whether the bytes from x on end by U64MAX and inside the window.
+// The bytes behind the first. A length of 0 counts as 1.
+pub fn behind(length: u64) -> u64
+    ensures { λ r. ⌜ r ≡ length - 1 ⌝ }
+{
+    if length == 0 {
+        return 0;
+    }
+    length - 1
+}
+
+// Whether the bytes from x on end by U64MAX and inside the window, told without their last address.
 pub fn has_room(length: u64, x: u64, window: Range) -> bool
     ensures { λ b. ⌜ b ≡ roomAt length x window ⌝ }
 {
-    if ranges::passes_max(x, length) {
+    let more = behind(length);
+    if window.last < more {
         return false;
     }
-    ranges::is_inside(ranges::span_of(x, length), window)
+    if window.last - more < x {
+        return false;
+    }
+    window.start <= x
 }
 
 // The lower of two places.

@@ -12,7 +12,7 @@ use Rattle.layout_objects.specs.Slots.{objects-long}
 use Rattle.reserved_ranges.specs.Gathered.{reservedOf-most}
 use Rattle.index_search.specs.Indexed.{indexed-length}
 use Rattle.gaps.proofs.Meeting.{still-address, still-place, moved}
-use Rattle.gaps.proofs.Walking.{Walk, walk-none, walk-start, walk-full, walk-sum, walk-never, walk-on, walk-found, walk-less}
+use Rattle.gaps.proofs.Walking.{Walk, room-fits, walk-none, walk-start, walk-full, walk-sum, walk-never, walk-on, walk-found, walk-less}
 use Rattle.gaps.proofs.gap_in.Statement.{statement}
 use Rattle.gaps.proofs.gap_in.Tie as tie
 
@@ -50,7 +50,7 @@ returns-2 : tie.Need-returns-2 Inv-loop μ-loop
 returns-2 c = let a = c .before .before .before .before .before .before .before .before .before .before in let l = c .before .before .loop in walk-full (a .args .w .alignment) (a .args .w .length) (a .args .w .low) (a .args .s) (objectsIn (a .args .h .now)) (a .args .window) (a .args .n) (a .args .ix .now) (recordsOf (a .args .ws .now)) (a .pre) (l .x) (l .k) (l .jumps) (l .inv) (c .before .has-room .result) (c .before .has-room .ensures) (c .if1 .taken)
 
 go-on-requires : tie.Need-go-on-requires Inv-loop μ-loop
-go-on-requires c κs = search needs
+go-on-requires c κs = let a = c .before .before .before .before .before .before .before .before .before .before in (a .pre, room-fits (a .args .w .length) (c .before .before .loop .x) (a .args .window) (c .before .has-room .result) (c .before .has-room .ensures) (c .if1 .left))
 
 add-jumps : tie.Need-add-jumps Inv-loop μ-loop
 add-jumps c = let a = c .before .before .before .before .before .before .before .before .before .before .before .before in let l = c .before .before .before .before .loop in omega (arith, walk-sum (a .args .w .alignment) (a .args .w .length) (a .args .w .low) (a .args .s) (objectsIn (a .args .h .now)) (a .args .window) (a .args .n) (a .args .ix .now) (recordsOf (a .args .ws .now)) (a .pre) (l .x) (l .k) (l .jumps) (l .inv) (c .before .go-on .result .spot) (c .before .go-on .result .place) (c .before .go-on .result .jumps) (c .before .go-on .ensures), countOf-length (ofSpace (a .args .s)) (view (take (a .args .n) (a .args .ix .now)) (recordsOf (a .args .ws .now))), indexed-length (a .args .n) (a .args .ix .now) (a .args .ws .now) (a .pre), a .pre .most, reservedOf-most (objectsIn (a .args .h .now)) (a .args .s), objects-long (a .args .h .now))
