@@ -115,6 +115,10 @@ module _ (os : List Object) (ms : List Mapping) (t : Target) (source from : ℕ)
   unfolding sourceChecks
   source-refuse = (λ y. omega (arith, y), (λ y. omega (arith, y), tt))
 
+  -- what was looked for in a space is the source, if it is the source's
+  pub asked : (o : Source) (s : ℕ) → s ≡ source → o ≡ sourced (sourceOf ms s from (t .length)) → o ≡ sourced named
+  asked o s q e = e ∙ ap (λ (x : ℕ). sourced (sourceOf ms x from (t .length))) q
+
   -- the numbers refuse
   pub by-numbers : (w : ℕ) (r : Edit) → w ≡ first numbers 0 → (w ≡ 0 → ⊥) → r ≡ refuse w → r ≡ edit
   unfolding copyEdit copyChecks

@@ -25,7 +25,9 @@ use Rattle.rules_calls.specs.declared.Edit.{Edit}
 use Rattle.rules_calls.specs.Edits.{refuse, settle, added}
 use Rattle.edits.specs.Kept.{added-value}
 use Rattle.rules_calls.specs.Bind.{newDevice, bindEdit, bindRule}
+use Rattle.rules_calls.specs.Attach.{attachEdit}
 use Rattle.rules_calls.specs.declared.Act.{Act}
+use Rattle.rules_calls.specs.declared.Act.the-variants.{Attach}
 use Rattle.rules_calls.specs.declared.Order.{Order}
 use Rattle.rules_calls.specs.declared.Reached.{Reached}
 use Rattle.rules_calls.specs.Gate.{tableErrno}
@@ -77,6 +79,10 @@ home-pos os (suc i) o g e h =
 module _ (t : Table) (o : Order) (e : Edit) where
   pub by-act : (k : Act) → o .act ≡ k → e ≡ actEdit t o k → e ≡ actEdit t o (o .act)
   by-act k a h = h ∙ rw a
+
+  -- the device is the second id of the order, the space the first
+  pub by-attach : o .act ≡ Attach → (d s : ℕ) → d ≡ o .second → s ≡ o .first → e ≡ attachEdit (t .objects) (t .mappings) d s → e ≡ actEdit t o (o .act)
+  by-attach a d s p q h = by-act Attach a (h ∙ ap (λ (x : ℕ). attachEdit (t .objects) (t .mappings) x s) p ∙ ap (λ (x : ℕ). attachEdit (t .objects) (t .mappings) (o .second) x) q)
 
 -- bind's id is small
 pub bind-value : (t : Table) (bitmap : ℕ) (l : Reserved) (e : Edit) → length (t .objects) ≡ 32 → e ≡ hostEdit t (bindOrder bitmap l) → e .value < 256

@@ -41,23 +41,23 @@ fn decide_act<'a>(
         Act::Bind => {
             let free = f.object;
             let l = o.reserved;
-            host_device::decide_bind(free, o.bitmap, l)
+            host_bind::decide_bind(free, o.bitmap, l)
         }
         Act::Attach => {
             let device = layout_objects::object_of(h, o.second);
             let page = check_mappings::page_of(pages, o.first);
             let a = ranges::higher(page, 1);
-            host_device::decide_attach(device, first, a, ws, ix, f.listed, o.second, o.first)
+            host_attach::decide_attach(device, first, a, ws, ix, f.listed, o.second, o.first)
         }
-        Act::Detach => host_device::decide_detach(first, o.first),
+        Act::Detach => host_detach::decide_detach(first, o.first),
         Act::Reach(write) => {
-            host_device::reach_of(first, ws, ix, f.listed, o.address, o.length, write)
+            host_reach::reach_of(first, ws, ix, f.listed, o.address, o.length, write)
         }
         Act::Charge => {
             let p = f.mappings;
             edits::tell(p.charge)
         }
-        Act::Next => host_device::next_of(first, ws, ix, f.listed, o.first, o.address),
+        Act::Next => host_reach::next_of(first, ws, ix, f.listed, o.first, o.address),
     }
 }
 

@@ -1,12 +1,11 @@
 // What a host call asks, as one order.
 ghost use mathlib.Core.Path.{_≡_};
-ghost use lib.ListN.{length};
 ghost use Rattle.rules_calls.specs.Orders.{orderFor, bindOrder, attachOrder, detachOrder, reachOrder, chargeOrder, nextOrder};
 use rangelists::Reserved;
 use rules_calls::Act;
 use rules_calls::Order;
 
-// Without ranges and numbers of 64 bits.
+// An order of ids alone.
 fn plain_order(act: Act, first: u32, second: u32) -> Order
     ensures { λ o. ⌜ o ≡ orderFor act first second ⌝ }
 {

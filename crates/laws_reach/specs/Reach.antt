@@ -29,7 +29,7 @@ use Rattle.rules_calls.specs.Orders.{reachedBy}
 use Rattle.rules_calls.specs.Named.{reachCall}
 use Rattle.rules_calls.specs.declared.Reached.{Reached}
 use Rattle.rules_calls.specs.Gate.{tableErrno}
-use Rattle.host_device.specs.Held.{reachIn, reach-split}
+use Rattle.host_reach.specs.Held.{reachIn, reach-split}
 use Rattle.laws_reach.specs.Plain.{rightIn, Asked, Reaches, Denied, Nowhere}
 use Rattle.laws_reach.specs.Found.{held-found, found-held, unheld-none, none-unheld}
 

@@ -1,4 +1,4 @@
--- How the calls end: what is decided and written is what the entries promise, and so is 117 for another number of records or of words beside them.
+-- How the calls end: what is decided and written is what the entries promise, and so is 117 for another number of records.
 use Prim.Native.Nat.{ℕ, _≤_, _<_}
 use mathlib.Core.Path.{_≡_, refl, sym, ap, subst, _∙_}
 use mathlib.Core.Bool.{false}

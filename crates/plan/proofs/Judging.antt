@@ -4,20 +4,19 @@ use mathlib.Core.Path.{_≡_, refl, sym, ap, _∙_}
 use mathlib.Core.Bool.{true, false, not, _&&_}
 use mathlib.Core.List.{List}
 use native.Mathlib.Omega.{arith}
-use lib.Dec.{leb, eqb}
 use lib.ListN.{length}
-use borrow.Author.Tests.{le-leb, lt-leb, eq-eqb, ne-eqb, leb-true, eqb-true}
-use Rattle.lists.specs.Tests.{by-test, and-left, and-right}
+use borrow.Author.Tests.{le-leb, lt-leb, eq-eqb, ne-eqb}
+use Rattle.lists.specs.Tests.{by-test, and-left}
 use Rattle.wire.specs.Fields.{field}
 use Rattle.rules_calls.specs.declared.Answer.{Answer}
 use Rattle.rules_calls.specs.Answers.{freshAnswer}
-use Rattle.plan.specs.declared.Section.the-variants.{Devices, Attachments, Commands}
-use Rattle.plan.specs.declared.Setup.{Setup}
+use Rattle.plan_shape.specs.declared.Section.the-variants.{Devices, Attachments, Commands}
+use Rattle.plan_setup.specs.declared.Setup.{Setup}
 use Rattle.plan.specs.declared.Ready.{Ready}
-use Rattle.plan.specs.Plan.{itemsEnd, sectionEnd, attachmentsAt, commandsAt, planEnd, whole, planOf}
-use Rattle.plan.specs.Setting.{setUp}
+use Rattle.plan_shape.specs.Plan.{itemsEnd, sectionEnd, attachmentsAt, commandsAt, planEnd, whole, planOf}
+use Rattle.plan_setup.specs.Setting.{setUp}
 use Rattle.plan.specs.Running.{badPlan, goodPlan, isReady, readyOf}
-use Rattle.plan.proofs.Ending.{section-capped}
+use Rattle.plan_shape.specs.Ends.{section-capped, whole-length, whole-end}
 
 pub bad-is : (a : Answer) → a ≡ freshAnswer 0 → record { good = false; at = 0; count = 0; table = a .table } ≡ badPlan
 unfolding badPlan
@@ -62,14 +61,6 @@ unfolding planEnd sectionEnd
 plan-commands bs = refl
 
 -- ---- what a plan that is ready lets its reader do
-
-whole-length : (bs : List ℕ) → whole bs ≡ true → length bs ≤ 65536
-unfolding whole
-whole-length bs e = leb-true (length bs) 65536 (and-left (leb (length bs) 65536) (eqb (planEnd bs) (length bs)) e)
-
-pub whole-end : (bs : List ℕ) → whole bs ≡ true → planEnd bs ≡ length bs
-unfolding whole
-whole-end bs e = eqb-true (planEnd bs) (length bs) (and-right (leb (length bs) 65536) (eqb (planEnd bs) (length bs)) e)
 
 pub ready-good : (bs : List ℕ) (r : Ready) → r ≡ readyOf bs → r .good ≡ isReady bs
 unfolding readyOf badPlan goodPlan

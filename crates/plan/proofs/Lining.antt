@@ -12,12 +12,13 @@ use mir.Syntax.{w32}
 use mir.Val.{toZ, ofZ}
 use Rattle.wire.specs.Fields.{field}
 use Rattle.rules_table.specs.declared.Table.{Table}
-use Rattle.plan.specs.declared.Section.the-variants.{Commands}
+use Rattle.plan_shape.specs.declared.Section.the-variants.{Commands}
 use Rattle.plan.specs.declared.Ready.{Ready}
-use Rattle.plan.specs.declared.Ran.{Ran}
-use Rattle.plan.specs.Plan.{commandEnd, itemEnd, itemsEnd, orderAt, orders, planOf}
-use Rattle.plan.specs.Running.{answerTo, ranBy, ranAt, Line, requestOf, resultOf, chargeOf, lineBy, linesFrom, linesOf, isReady, readyOf, goodPlan, shown}
-use Rattle.plan.proofs.Ending.{item-from, items-turn}
+use Rattle.plan_commands.specs.declared.Ran.{Ran}
+use Rattle.plan_shape.specs.Plan.{commandEnd, itemEnd, itemsEnd, orderAt, orders, planOf}
+use Rattle.plan_commands.specs.Ran.{answerTo, ranBy, ranAt}
+use Rattle.plan.specs.Running.{Line, requestOf, resultOf, chargeOf, lineBy, linesFrom, linesOf, isReady, readyOf, goodPlan, shown}
+use Rattle.plan_shape.specs.Ends.{item-from, items-turn}
 use Rattle.plan.proofs.Judging.{ready-good, ready-test, ready-is, ready-length, ready-room}
 
 pub command-room : (bs : List ℕ) (at : ℕ) → itemEnd Commands bs at ≤ length bs → at + (12 + field 4 bs (at + 4) + field 4 bs (at + 8)) ≤ length bs

@@ -8,12 +8,10 @@ use Rattle.rules_table.specs.declared.Table.{Table}
 use Rattle.rules_table.specs.Charge.{charge}
 use Rattle.rules_calls.specs.declared.Answer.{Answer}
 use Rattle.rules_calls.specs.Answers.{freshAnswer}
-use Rattle.rules_calls.specs.Call.{callDone}
-use Rattle.plan.specs.declared.Section.the-variants.{Commands}
 use Rattle.plan.specs.declared.Ready.{Ready}
-use Rattle.plan.specs.declared.Ran.{Ran}
-use Rattle.plan.specs.Plan.{itemEnd, commandsAt, whole, Order, orderAt, Plan, planOf}
-use Rattle.plan.specs.Setting.{setUp}
+use Rattle.plan_shape.specs.Plan.{commandsAt, whole, Order, Plan, planOf}
+use Rattle.plan_setup.specs.Setting.{setUp}
+use Rattle.plan_commands.specs.Ran.{answerTo}
 
 -- ---- before anything is printed
 
@@ -35,17 +33,6 @@ unfoldable pub readyOf : List ℕ → Ready
 readyOf bs = judged (isReady bs) bs (setUp (planOf bs) .table)
 
 -- ---- the commands
-
--- the answer of the door to a command
-unfoldable pub answerTo : Table → Order → Answer
-answerTo t o = callDone t (o .request) (o .bytes) (o .area) .answer
-
--- its result, the charge after it, and where the next command stands
-unfoldable pub ranBy : Order → ℕ → Answer → Ran
-ranBy o next a = record { request = o .request; result = a .result; charge = charge (a .table .mappings); next = next; table = a .table }
-
-unfoldable pub ranAt : Table → List ℕ → ℕ → Ran
-ranAt t bs at = ranBy (orderAt bs at) (itemEnd Commands bs at) (answerTo t (orderAt bs at))
 
 -- a line of the output: the command's number from 0, the request, the result, the charge after it
 pub record Line : Type 0 where

@@ -3,12 +3,12 @@ ghost use mathlib.Core.List.{map};
 ghost use mathlib.Core.Path.{_≡_};
 ghost use Prim.Native.Nat.{_≤_};
 ghost use lib.ListN.{length, take};
-ghost use Rattle.plan.specs.Plan.{itemsEnd, orders};
+ghost use Rattle.plan_shape.specs.Plan.{itemsEnd, orders};
 ghost use Rattle.plan.specs.Running.{requestOf, resultOf, chargeOf, linesFrom, isReady, shown};
 use crate::Outcome;
-use crate::Section;
 use crate::judge;
-use crate::running::run_at;
+use plan_commands::run_at;
+use plan_shape::Section;
 use rules_table::Table;
 
 // So many commands from a place on.

@@ -23,10 +23,11 @@ use Rattle.laws_history.specs.Rel.{Rel}
 use Rattle.laws_history.specs.Told.{told}
 use Rattle.rules_history.specs.Told.{Told}
 use Rattle.laws_history.specs.History.{step-rel, step-good, fresh-rel, run-good, run-rel, demand-3-told}
-use Rattle.plan.specs.declared.Setup.{Setup}
-use Rattle.plan.specs.Plan.{Device, Pair, Order, Plan}
-use Rattle.plan.specs.Setting.{setupBy, goOn, onward, allocBytes, withSpace, withDevice, withPair, withSpaces, withDevices, withPairs, setUp}
-use Rattle.plan.specs.Running.{Line, answerTo, lineBy, linesFrom, linesOf}
+use Rattle.plan_setup.specs.declared.Setup.{Setup}
+use Rattle.plan_shape.specs.Plan.{Device, Pair, Order, Plan}
+use Rattle.plan_setup.specs.Setting.{setupBy, goOn, onward, allocBytes, withSpace, withDevice, withPair, withSpaces, withDevices, withPairs, setUp}
+use Rattle.plan_commands.specs.Ran.{answerTo}
+use Rattle.plan.specs.Running.{Line, lineBy, linesFrom, linesOf}
 
 abbrev pub spaceCall : Call
 spaceCall = Call.Command 0x3B81 allocBytes []

@@ -13,8 +13,8 @@ use Rattle.rules_history.specs.Calls.{after, trace}
 use Rattle.rules_history.specs.Ledger.{empty, ledgerOf}
 use Rattle.rules_history.specs.Told.{Told}
 use Rattle.plan.specs.declared.Outcome.{Outcome}
-use Rattle.plan.specs.Plan.{Plan, planOf, whole}
-use Rattle.plan.specs.Setting.{setUp}
+use Rattle.plan_shape.specs.Plan.{Plan, planOf, whole}
+use Rattle.plan_setup.specs.Setting.{setUp}
 use Rattle.plan.specs.Running.{Line, requestOf, resultOf, chargeOf, isReady, linesOf, shown}
 use Rattle.plan_laws.specs.Sequence.{orderCall, setupCalls, planCalls, tableOf, linesTold, plan-told, lines-told}
 

@@ -1,7 +1,8 @@
 //! What a systems programmer would write instead of the archive: plain safe Rust on the same layout, in place and without allocation. It gives the papers'
-//! answers for any table and any bytes where it checks the table before every call (`CHECKED`), and for good tables where it trusts the table. It goes by
-//! the archive's own steps, so that two programs are compared and not two algorithms: what a call looks for it finds by a binary search of the index, and
-//! the index is kept by moving its words up or down.
+//! answers for any table and any bytes where it checks the table before every call, and for good tables where it trusts the table. It goes by the archive's
+//! own steps, so that two programs are compared and not two algorithms: what a call looks for it finds by a binary search of the index, and the index is
+//! kept by moving its words up or down. The check is there twice: rule by rule, as one writes it first (`STRAIGHT`), and tuned for the machine until nothing
+//! more was found to gain (`TUNED`).
 //!
 //! A command is decided on the table as it stands and only then applied, so that a refusal writes nothing and a preview is the decision alone.
 mod check;
@@ -9,6 +10,7 @@ mod commands;
 mod host;
 mod place;
 mod range;
+mod straight;
 mod table;
 mod wire;
 
@@ -61,6 +63,11 @@ const EUCLEAN: Errno = Errno(117);
 
 type Answer<T> = Result<T, Errno>;
 
+/// How the table is checked before a call.
+const TRUSTED: u8 = 0;
+const STRAIGHT: u8 = 1;
+const TUNED: u8 = 2;
+
 /// `Err` of a refusal where the condition holds: the checks of a call, one line each.
 fn refuse(fires: bool, errno: Errno) -> Answer<()> {
     if fires {
@@ -72,14 +79,15 @@ fn refuse(fires: bool, errno: Errno) -> Answer<()> {
 
 /// What a call decides on a table, behind the first check of every call.
 #[inline(always)]
-fn decide<const CHECKED: bool, T>(head: &Head, mappings: &[Mapping], index: &[u64], decide: impl FnOnce(Table) -> Answer<T>) -> Answer<T> {
+fn decide<const CHECK: u8, T>(head: &Head, mappings: &[Mapping], index: &[u64], decide: impl FnOnce(Table) -> Answer<T>) -> Answer<T> {
     let mappings: &Records = mappings.try_into().map_err(|_| EUCLEAN)?;
     let index: &Index = index.try_into().map_err(|_| EUCLEAN)?;
-    if !CHECKED {
+    if CHECK == TRUSTED {
         return decide(Table { head, mappings, listed: listed(index), found: None });
     }
     let mut found = Found::nothing();
-    refuse(!check::is_good(head, mappings, index, &mut found), EUCLEAN)?;
+    let is_good = if CHECK == STRAIGHT { straight::is_good } else { check::is_good };
+    refuse(!is_good(head, mappings, index, &mut found), EUCLEAN)?;
     decide(Table { head, mappings, listed: &index[..found.used], found: Some(&found) })
 }
 
@@ -112,8 +120,8 @@ pub fn fresh(head: &mut Head, mappings: &mut [Mapping], index: &mut [u64], limit
 }
 
 #[inline(never)]
-pub fn call<const CHECKED: bool>(head: &mut Head, mappings: &mut [Mapping], index: &mut [u64], request: u32, command: &mut [u8], area: &mut [u8]) -> i32 {
-    let decided = decide::<CHECKED, _>(head, mappings, index, |t| commands::decide(t, request, command, area));
+pub fn call<const CHECK: u8>(head: &mut Head, mappings: &mut [Mapping], index: &mut [u64], request: u32, command: &mut [u8], area: &mut [u8]) -> i32 {
+    let decided = decide::<CHECK, _>(head, mappings, index, |t| commands::decide(t, request, command, area));
     result(decided.map(|change| {
         commands::apply(head, mappings, index, change, area);
         0
@@ -121,14 +129,14 @@ pub fn call<const CHECKED: bool>(head: &mut Head, mappings: &mut [Mapping], inde
 }
 
 #[inline(never)]
-pub fn preview<const CHECKED: bool>(head: &Head, mappings: &[Mapping], index: &[u64], request: u32, command: &mut [u8], area: &mut [u8]) -> i32 {
-    let decided = decide::<CHECKED, _>(head, mappings, index, |t| commands::decide(t, request, command, area));
+pub fn preview<const CHECK: u8>(head: &Head, mappings: &[Mapping], index: &[u64], request: u32, command: &mut [u8], area: &mut [u8]) -> i32 {
+    let decided = decide::<CHECK, _>(head, mappings, index, |t| commands::decide(t, request, command, area));
     result(decided.map(|_| 0))
 }
 
 #[inline(never)]
-pub fn bind<const CHECKED: bool>(head: &mut Head, mappings: &[Mapping], index: &[u64], bitmap: u64, reserved: &Reserved) -> i32 {
-    let place = decide::<CHECKED, _>(head, mappings, index, |t| host::bind(t, bitmap, reserved));
+pub fn bind<const CHECK: u8>(head: &mut Head, mappings: &[Mapping], index: &[u64], bitmap: u64, reserved: &Reserved) -> i32 {
+    let place = decide::<CHECK, _>(head, mappings, index, |t| host::bind(t, bitmap, reserved));
     result(place.map(|i| {
         head.objects[i] = host::device(bitmap, reserved);
         i as i32 + 1
@@ -136,8 +144,8 @@ pub fn bind<const CHECKED: bool>(head: &mut Head, mappings: &[Mapping], index: &
 }
 
 #[inline(never)]
-pub fn attach<const CHECKED: bool>(head: &mut Head, mappings: &[Mapping], index: &[u64], device: u32, space: u32) -> i32 {
-    let place = decide::<CHECKED, _>(head, mappings, index, |t| host::attach(t, device, space));
+pub fn attach<const CHECK: u8>(head: &mut Head, mappings: &[Mapping], index: &[u64], device: u32, space: u32) -> i32 {
+    let place = decide::<CHECK, _>(head, mappings, index, |t| host::attach(t, device, space));
     result(place.map(|i| {
         head.objects[i].kind = ATTACHED;
         head.objects[i].home = space;
@@ -146,8 +154,8 @@ pub fn attach<const CHECKED: bool>(head: &mut Head, mappings: &[Mapping], index:
 }
 
 #[inline(never)]
-pub fn detach<const CHECKED: bool>(head: &mut Head, mappings: &[Mapping], index: &[u64], device: u32) -> i32 {
-    let place = decide::<CHECKED, _>(head, mappings, index, |t| host::detach(t, device));
+pub fn detach<const CHECK: u8>(head: &mut Head, mappings: &[Mapping], index: &[u64], device: u32) -> i32 {
+    let place = decide::<CHECK, _>(head, mappings, index, |t| host::detach(t, device));
     result(place.map(|i| {
         head.objects[i].kind = LOOSE;
         head.objects[i].home = 0;
@@ -156,45 +164,50 @@ pub fn detach<const CHECKED: bool>(head: &mut Head, mappings: &[Mapping], index:
 }
 
 #[inline(never)]
-pub fn reach<const CHECKED: bool>(head: &Head, mappings: &[Mapping], index: &[u64], device: u32, address: u64, length: u64, write: u32) -> Number {
-    number(decide::<CHECKED, _>(head, mappings, index, |t| host::reach(t, device, address, length, write != 0)))
+pub fn reach<const CHECK: u8>(head: &Head, mappings: &[Mapping], index: &[u64], device: u32, address: u64, length: u64, write: u32) -> Number {
+    number(decide::<CHECK, _>(head, mappings, index, |t| host::reach(t, device, address, length, write != 0)))
 }
 
 #[inline(never)]
-pub fn charge<const CHECKED: bool>(head: &Head, mappings: &[Mapping], index: &[u64]) -> Number {
-    number(decide::<CHECKED, _>(head, mappings, index, |t| Ok(t.charge())))
+pub fn charge<const CHECK: u8>(head: &Head, mappings: &[Mapping], index: &[u64]) -> Number {
+    number(decide::<CHECK, _>(head, mappings, index, |t| Ok(t.charge())))
 }
 
 /// The value is the number of a record.
 #[inline(never)]
-pub fn next<const CHECKED: bool>(head: &Head, mappings: &[Mapping], index: &[u64], space: u32, address: u64) -> Number {
-    number(decide::<CHECKED, _>(head, mappings, index, |t| host::next(t, space, address)))
+pub fn next<const CHECK: u8>(head: &Head, mappings: &[Mapping], index: &[u64], space: u32, address: u64) -> Number {
+    number(decide::<CHECK, _>(head, mappings, index, |t| host::next(t, space, address)))
 }
 
 // ---- as systems
 
 /// Every call on a table that is checked first.
 pub fn checked(lent: &mut Lent, call: &mut Call) -> Number {
-    run::<true>(lent, call)
+    run::<TUNED>(lent, call)
+}
+
+/// The same with the check that is not tuned.
+pub fn straight(lent: &mut Lent, call: &mut Call) -> Number {
+    run::<STRAIGHT>(lent, call)
 }
 
 /// Every call on a table that is trusted. On a bad table it may answer anything, or panic.
 pub fn trusting(lent: &mut Lent, call: &mut Call) -> Number {
-    run::<false>(lent, call)
+    run::<TRUSTED>(lent, call)
 }
 
-fn run<const CHECKED: bool>(lent: &mut Lent, asked: &mut Call) -> Number {
+fn run<const CHECK: u8>(lent: &mut Lent, asked: &mut Call) -> Number {
     let (head, mappings, index) = (&mut *lent.head, &mut lent.mappings[..], &mut lent.index[..]);
     let told = |result| Number { result, value: 0 };
     match asked {
         Call::Fresh { limit } => told(fresh(head, mappings, index, *limit)),
-        Call::Command { request, bytes, area } => told(call::<CHECKED>(head, mappings, index, *request, bytes, area)),
-        Call::Preview { request, bytes, area } => told(preview::<CHECKED>(head, mappings, index, *request, bytes, area)),
-        Call::Bind { bitmap, reserved } => told(bind::<CHECKED>(head, mappings, index, *bitmap, reserved)),
-        Call::Attach { device, space } => told(attach::<CHECKED>(head, mappings, index, *device, *space)),
-        Call::Detach { device } => told(detach::<CHECKED>(head, mappings, index, *device)),
-        Call::Reach { device, address, length, write } => reach::<CHECKED>(head, mappings, index, *device, *address, *length, *write),
-        Call::Charge => charge::<CHECKED>(head, mappings, index),
-        Call::Next { space, address } => next::<CHECKED>(head, mappings, index, *space, *address),
+        Call::Command { request, bytes, area } => told(call::<CHECK>(head, mappings, index, *request, bytes, area)),
+        Call::Preview { request, bytes, area } => told(preview::<CHECK>(head, mappings, index, *request, bytes, area)),
+        Call::Bind { bitmap, reserved } => told(bind::<CHECK>(head, mappings, index, *bitmap, reserved)),
+        Call::Attach { device, space } => told(attach::<CHECK>(head, mappings, index, *device, *space)),
+        Call::Detach { device } => told(detach::<CHECK>(head, mappings, index, *device)),
+        Call::Reach { device, address, length, write } => reach::<CHECK>(head, mappings, index, *device, *address, *length, *write),
+        Call::Charge => charge::<CHECK>(head, mappings, index),
+        Call::Next { space, address } => next::<CHECK>(head, mappings, index, *space, *address),
     }
 }

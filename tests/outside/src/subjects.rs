@@ -14,11 +14,12 @@ pub struct Subject {
 
 pub const ARCHIVE: Subject = Subject { letter: 'a', name: "archive", system: boundary::run };
 pub const MODEL: Subject = Subject { letter: 'b', name: "model", system: model::run };
-pub const CHECKED: Subject = Subject { letter: 'c', name: "plain, checked", system: plain::checked };
+pub const CHECKED: Subject = Subject { letter: 'c', name: "plain, tuned", system: plain::checked };
 pub const TRUSTING: Subject = Subject { letter: 'd', name: "plain, trusting", system: plain::trusting };
+pub const STRAIGHT: Subject = Subject { letter: 'e', name: "plain", system: plain::straight };
 
 /// In the order of the columns of a table.
-pub const ALL: [Subject; 4] = [ARCHIVE, MODEL, CHECKED, TRUSTING];
+pub const ALL: [Subject; 5] = [ARCHIVE, MODEL, STRAIGHT, CHECKED, TRUSTING];
 
 /// A call that is handed on and does nothing: what the measuring itself takes.
 pub fn nothing(_: &mut Lent, _: &mut Call) -> Number {

@@ -7,7 +7,7 @@ pub const ROWS: &str = "MAP or COPY with its UNMAP counts as one; such a pair ne
      its source. Reach at 0 answers -14. `refused late` is a fixed MAP of an address that is mapped (-17; at 0 of a reserved one, -22), `refused early` a MAP with an \
      unknown flag (-95).";
 
-const RATIOS: [&str; 3] = ["a/c", "a/b", "a/d"];
+const RATIOS: [&str; 4] = ["a/e", "a/c", "a/b", "a/d"];
 const FEW: usize = COUNTS[1];
 const MANY: usize = COUNTS[COUNTS.len() - 1];
 
@@ -43,7 +43,7 @@ impl Row {
     /// `more` are the columns at the end.
     pub fn print(&self, more: &[String]) {
         let figures = ALL.map(|s| or_dash(self.figure(s.letter).map(|f| f.text.clone())));
-        let ratios = ['c', 'b', 'd'].map(|l| or_dash(self.ratio('a', l).map(|r| format!("{r:.2}"))));
+        let ratios = ['e', 'c', 'b', 'd'].map(|l| or_dash(self.ratio('a', l).map(|r| format!("{r:.2}"))));
         println!("| {} | {} | {} |", self.cell.workload.name(), self.cell.count, [&figures[..], &ratios, more].concat().join(" | "));
     }
 }

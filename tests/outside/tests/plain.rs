@@ -16,6 +16,10 @@ fn checked(_: &mut Dice, lent: &mut Lent, call: &mut Call) -> Told {
     Ok(plain::checked(lent, call))
 }
 
+fn straight(_: &mut Dice, lent: &mut Lent, call: &mut Call) -> Told {
+    Ok(plain::straight(lent, call))
+}
+
 /// The table is trusted only where it is good.
 fn trusting(_: &mut Dice, lent: &mut Lent, call: &mut Call) -> Told {
     let system = if model::bad(lent).is_some() { model::run } else { plain::trusting };
@@ -36,6 +40,12 @@ fn is_alike(tried: Tried) -> runs::Outcome {
 #[test]
 fn checked_is_alike() {
     let outcome = is_alike(checked);
+    assert_eq!(outcome.coverage.faults(true), Vec::<String>::new(), "after {} calls", outcome.calls);
+}
+
+#[test]
+fn straight_is_alike() {
+    let outcome = is_alike(straight);
     assert_eq!(outcome.coverage.faults(true), Vec::<String>::new(), "after {} calls", outcome.calls);
 }
 

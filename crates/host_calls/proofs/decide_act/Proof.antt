@@ -1,13 +1,16 @@
-use Rattle.rules_calls.specs.declared.Act.the-variants.{Next, Bind, Attach, Detach, Charge}
+use Rattle.rules_calls.specs.declared.Act.the-variants.{Next, Bind, Detach, Charge}
 use Prim.Native.Nat.{ℕ, max}
 use mathlib.Core.Path.{ap, _∙_}
+use native.Mathlib.Omega.{arith}
+use Rattle.rules_table.specs.Records.{objectAt}
+use Rattle.rules_table.specs.Spaces.{alignment}
 use Rattle.rules_table.specs.Words.{headIn, objectsIn}
 use Rattle.rules_calls.specs.Gate.{tableWith}
 use Rattle.rules_calls.specs.Edits.{tells}
 use Rattle.layout_objects.specs.Slots.{objects-long}
 use Rattle.layout_mappings.specs.Words.{recordsOf}
 use Rattle.check_table.specs.Known.{page-is, page-higher}
-use Rattle.host_calls.proofs.Guarding.{by-act, home-pos, space-pos}
+use Rattle.host_calls.proofs.Guarding.{by-act, by-attach, home-pos, space-pos}
 use borrow.Author.Needs.{needs}
 use Rattle.host_calls.proofs.decide_act.Statement.{statement}
 use Rattle.host_calls.proofs.decide_act.Tie as tie
@@ -66,7 +69,7 @@ returns : tie.Need-returns
 returns c = let a = (c .before .before .before .before .before .before .before .args) in let os = objectsIn (a .h .now) in let ms = recordsOf (a .ws .now) in let t = tableWith (headIn (a .h .now) .limit) os ms in let k = (c .before .before .before .before .before .before .before .pre) .1 in by-act t (a .o) _ Bind ((c .before .before .enum-told) .given .1) ((c .decide-bind .ensures) os (objects-long (a .h .now)) (k .object))
 
 returns-2 : tie.Need-returns-2
-returns-2 c = let a = (c .before .before .before .before .before .before .before .before .before .args) in let os = objectsIn (a .h .now) in let ms = recordsOf (a .ws .now) in let t = tableWith (headIn (a .h .now) .limit) os ms in let k = (c .before .before .before .before .before .before .before .before .before .pre) .1 in by-act t (a .o) _ Attach ((c .before .before .before .before .enum-told2) .given .1) ((c .decide-attach .ensures) os (c .before .before .before .object-of2 .ensures) (c .before .before .before .before .before .before .object-of .ensures) ((c .before .higher .ensures) ∙ ap (λ (x : ℕ). max x 1) ((c .before .before .page-of .ensures) ∙ page-is os (a .pages .now) (k .aligned) (a .o .first)) ∙ page-higher os (k .objects) (a .o .first)))
+returns-2 c = let a = (c .before .before .before .before .before .before .before .before .before .args) in let os = objectsIn (a .h .now) in let ms = recordsOf (a .ws .now) in let t = tableWith (headIn (a .h .now) .limit) os ms in let k = (c .before .before .before .before .before .before .before .before .before .pre) .1 in by-attach t (a .o) _ ((c .before .before .before .before .enum-told2) .given .1) _ _ (omega arith) (omega arith) ((c .decide-attach .ensures) os (c .before .before .before .object-of2 .ensures ∙ ap (objectAt os) (omega arith)) (c .before .before .before .before .before .before .object-of .ensures ∙ ap (objectAt os) (omega arith)) ((c .before .higher .ensures) ∙ ap (λ (x : ℕ). max x 1) ((c .before .before .page-of .ensures) ∙ page-is os (a .pages .now) (k .aligned) (a .o .first)) ∙ page-higher os (k .objects) (a .o .first) ∙ ap (alignment os) (omega arith)))
 
 returns-3 : tie.Need-returns-3
 returns-3 c = let a = (c .before .before .before .before .before .before .args) in let os = objectsIn (a .h .now) in let ms = recordsOf (a .ws .now) in let t = tableWith (headIn (a .h .now) .limit) os ms in let k = (c .before .before .before .before .before .before .pre) .1 in by-act t (a .o) _ Detach ((c .before .enum-told3) .given .1) ((c .decide-detach .ensures) os (c .before .before .before .object-of .ensures))

@@ -55,7 +55,7 @@ page-of-requires-2 c κs = (c .before .before .before .before .before .before .b
 copy-requires : tie.Need-copy-requires
 copy-requires c κs =
     let a = c .before .before .before .before .before .before .before .before .before .before .before .before .before .before .before in
-    ((omega (arith, sized (a .args .c) Copy _ (c .before .before .before .before .before .before .before .enum-told4 .given .1) (a .pre .0))), a .pre .1 .indexed, page-pos (a .args .pages .now) _ _ _ (c .before .before .before .before .page-of .ensures) (c .before .before .before .before .before .read322 .ensures), page-pos (a .args .pages .now) _ _ _ (c .before .page-of2 .ensures) (c .before .before .read323 .ensures))
+    ((omega (arith, sized (a .args .c) Copy _ (c .before .before .before .before .before .before .before .enum-told4 .given .1) (a .pre .0))), a .pre .1 .indexed, (λ h. page-pos (a .args .pages .now) _ _ (c .before .before .before .before .page-of .result) (c .before .before .before .before .page-of .ensures) (c .before .before .before .before .before .read322 .ensures) (omega (arith, h))), (λ h. page-pos (a .args .pages .now) _ _ (c .before .page-of2 .result) (c .before .page-of2 .ensures) (c .before .before .read323 .ensures) (omega (arith, h))))
 
 enum-told-5 : tie.Need-enum-told-5
 enum-told-5 c = search needs
@@ -122,7 +122,7 @@ same-length-5 : tie.Need-same-length-5
 same-length-5 c = search needs
 
 returns-4 : tie.Need-returns-4
-returns-4 c = let a = (c .before .before .before .before .before .before .before .before .before .before .before .before .before .before .before .before .before .before .args) in let os = objectsIn (a .h .now) in let ms = recordsOf (a .ws .now) in let t = tableWith (headIn (a .h .now) .limit) os ms in let k = (c .before .before .before .before .before .before .before .before .before .before .before .before .before .before .before .before .before .before .pre) .1 in by-command t _ _ _ _ _ (a .c) Copy ((c .before .before .before .before .before .before .before .before .before .before .enum-told4) .given .1) ((c .before .before .copy .ensures) .0 ((c .before .before .before .before .before .before .before .page-of .ensures) ∙ ap (pageOf (a .pages .now)) (c .before .before .before .before .before .before .before .before .read322 .ensures) ∙ page-is os (a .pages .now) (k .aligned) _) ((c .before .before .before .before .page-of2 .ensures) ∙ ap (pageOf (a .pages .now)) (c .before .before .before .before .before .read323 .ensures) ∙ page-is os (a .pages .now) (k .aligned) _), (c .before .before .copy .ensures) .1, refl)
+returns-4 c = let a = (c .before .before .before .before .before .before .before .before .before .before .before .before .before .before .before .before .before .before .args) in let os = objectsIn (a .h .now) in let ms = recordsOf (a .ws .now) in let t = tableWith (headIn (a .h .now) .limit) os ms in let k = (c .before .before .before .before .before .before .before .before .before .before .before .before .before .before .before .before .before .before .pre) .1 in by-command t _ _ _ _ _ (a .c) Copy ((c .before .before .before .before .before .before .before .before .before .before .enum-told4) .given .1) ((c .before .before .copy .ensures) .0 ((omega arith) ∙ (c .before .before .before .before .before .before .before .page-of .ensures) ∙ ap (pageOf (a .pages .now)) (c .before .before .before .before .before .before .before .before .read322 .ensures) ∙ page-is os (a .pages .now) (k .aligned) _) ((omega arith) ∙ (c .before .before .before .before .page-of2 .ensures) ∙ ap (pageOf (a .pages .now)) (c .before .before .before .before .before .read323 .ensures) ∙ page-is os (a .pages .now) (k .aligned) _), (c .before .before .copy .ensures) .1, refl)
 
 same-length-6 : tie.Need-same-length-6
 same-length-6 c = search needs

@@ -1,6 +1,6 @@
 -- Longer, cut or overlong, refused, or ready.
 use native.Mathlib.Omega.{arith}
-use Rattle.plan.proofs.Ending.{commands-room}
+use Rattle.plan_shape.specs.Ends.{commands-room}
 use Rattle.plan.proofs.Judging.{commands-end, plan-end, longer, cut-or-over, refused-plan, ready-plan}
 use borrow.Author.Needs.{needs}
 use Rattle.plan.proofs.judge.Statement.{statement}

@@ -9,6 +9,8 @@ use iommufd::raw::{Head, Mapping, Object};
 pub struct Found {
     /// The pages of all backings, each counted once.
     pub charge: u64,
+    /// Whether the check has looked for the lowest free records, the next two.
+    pub looked: bool,
     /// The lowest free object record.
     pub object: Option<usize>,
     /// The lowest released mapping record.
@@ -23,7 +25,7 @@ pub struct Found {
 
 impl Found {
     pub fn nothing() -> Found {
-        Found { charge: 0, object: None, mapping: None, alignments: [0; 33], marks: [0; RECORDS + 1], used: 0 }
+        Found { charge: 0, looked: false, object: None, mapping: None, alignments: [0; 33], marks: [0; RECORDS + 1], used: 0 }
     }
 }
 
@@ -138,6 +140,7 @@ fn records_good(mappings: &Records, found: &mut Found) -> bool {
     }
     found.charge = charge;
     found.used = used;
+    found.looked = true;
     found.mapping = (free < RECORDS).then_some(free);
     true
 }

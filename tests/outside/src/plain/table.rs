@@ -102,12 +102,12 @@ impl<'a> Table<'a> {
 
     /// The lowest free object record.
     pub fn free_object(self) -> Option<usize> {
-        self.found.map_or_else(|| self.head.objects.iter().position(|o| o.kind == 0), |found| found.object)
+        self.found.filter(|found| found.looked).map_or_else(|| self.head.objects.iter().position(|o| o.kind == 0), |found| found.object)
     }
 
     /// The lowest released mapping record.
     pub fn free_mapping(self) -> Option<usize> {
-        self.found.map_or_else(|| self.mappings.iter().position(|m| m.space == 0), |found| found.mapping)
+        self.found.filter(|found| found.looked).map_or_else(|| self.mappings.iter().position(|m| m.space == 0), |found| found.mapping)
     }
 
     /// The devices of a space.

@@ -4,10 +4,10 @@ use Prim.Native.Nat.{_+_, _≤_}
 use mathlib.Core.Path.{_≡_, refl}
 use mathlib.Core.List.{_++_, map}
 use lib.ListN.{length, take}
-use Rattle.plan.specs.declared.Section.the-variants.{Commands}
-use Rattle.plan.specs.Plan.{itemsEnd, orders}
+use Rattle.plan_shape.specs.declared.Section.the-variants.{Commands}
+use Rattle.plan_shape.specs.Plan.{itemsEnd, orders}
 use Rattle.plan.specs.Running.{requestOf, resultOf, chargeOf, linesFrom}
-use Rattle.plan.proofs.Ending.{item-room}
+use Rattle.plan_shape.specs.Ends.{item-room}
 use Rattle.plan.proofs.Lining.{command-room, items-after, filled-on, signed-on, filled-all}
 use borrow.Author.Needs.{needs}
 use Rattle.plan.proofs.whole.run_all.Statement.{statement}

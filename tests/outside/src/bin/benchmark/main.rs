@@ -15,14 +15,14 @@ mod timing;
 use options::Options;
 use outside::answers::all_alike;
 use outside::machine;
-use outside::subjects::{cells, Cell, Subject, ARCHIVE, CHECKED, MODEL, TRUSTING};
+use outside::subjects::{cells, Cell, Subject, ARCHIVE, CHECKED, MODEL, STRAIGHT, TRUSTING};
 use outside::tables::{growth, heading, Row};
 use outside::workloads::Workload;
 use std::process::ExitCode;
 
 /// In the order in which their batches take turns.
 fn subjects(options: &Options) -> Vec<Subject> {
-    let all = [ARCHIVE, CHECKED, TRUSTING, MODEL];
+    let all = [ARCHIVE, STRAIGHT, CHECKED, TRUSTING, MODEL];
     all.into_iter().filter(|s| options.model || s.letter != MODEL.letter).collect()
 }
 
@@ -64,7 +64,7 @@ fn run() -> Result<(), String> {
     report::header(&machine::describe(), timing::empty());
     let rows = times(&options, &subjects, &cells);
     growth(&rows, "nanoseconds");
-    report::stack(&workloads, &[ARCHIVE, CHECKED, TRUSTING])?;
+    report::stack(&workloads, &[ARCHIVE, STRAIGHT, CHECKED, TRUSTING])?;
     copies::report(&options.only)?;
     within(options.limit, &rows)
 }

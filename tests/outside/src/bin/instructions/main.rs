@@ -1,14 +1,14 @@
 //! How many instructions a call of the archive takes beside the model and beside a plain program, counted by callgrind and printed as markdown. Two runs of the same programs
 //! print the same, whatever else the machine does.
 //!
-//! `--kit PROGRAM` names this program linked with the kit's own archive, for two columns more. `--limit` fails where a/c is above what the archive is held to, `--limit RATIO`
-//! where it is above RATIO in any row that has a limit. With `--batches LETTERS` the program does what is counted, and prints nothing: it runs itself so.
+//! `--kit PROGRAM` names this program linked with the kit's own archive, for two columns more. `--limit` fails where a/e or a/c is above what the archive is held to, `--limit RATIO`
+//! where one is above RATIO in any row that has a limit. With `--batches LETTERS` the program does what is counted, and prints nothing: it runs itself so.
 mod batches;
 mod callgrind;
 mod options;
 
 use callgrind::Count;
-use options::{Limits, Options, ORDER_LIMITS};
+use options::{Limits, Options, Ratios, ORDER_LIMITS};
 use outside::machine;
 use outside::subjects::{cells, Cell, Subject, ALL, ARCHIVE};
 use outside::tables::{grouped, growth, heading, Figure, Row, ROWS};
@@ -92,20 +92,20 @@ fn without_copies(rounds: &[Vec<Round>]) {
     println!("\n`copying` is {} % of (a); without memcpy and memset in both, a/c is {}.", span(shares, 0), span(ratios, 2));
 }
 
-/// The row with the highest a/c of each number of mappings, of those that have a limit.
-fn worst(rows: &[Row]) -> Vec<(&Row, f64)> {
+/// The row where the archive takes most against a system, at each number of mappings, of those that have a limit.
+fn worst(rows: &[Row], letter: char) -> Vec<(&Row, f64)> {
     let limited = |count| rows.iter().filter(move |r| r.cell.count == count && r.cell.has_limit());
-    let ratios = |count| limited(count).filter_map(|r| Some((r, r.ratio('a', 'c')?)));
+    let ratios = |count| limited(count).filter_map(|r| Some((r, r.ratio('a', letter)?)));
     COUNTS.into_iter().filter_map(|count| ratios(count).max_by(|a, b| a.1.total_cmp(&b.1))).collect()
 }
 
 /// Prints the worst rows, and fails where one is above its limit.
-fn judge(rows: &[Row], limits: Limits) -> Result<(), String> {
-    let worst = worst(rows);
+fn judge(rows: &[Row], letter: char, limits: Ratios) -> Result<(), String> {
+    let worst = worst(rows, letter);
     let told: Vec<String> = worst.iter().map(|(row, ratio)| format!("{ratio:.2} ({})", row.cell.name())).collect();
-    println!("\nThe highest a/c: {}.", told.join("; "));
+    println!("\nThe highest a/{letter}: {}.", told.join("; "));
     match worst.iter().zip(limits).find(|((_, ratio), limit)| ratio > limit) {
-        Some(((row, ratio), limit)) => Err(format!("{}: a/c is {ratio:.3}, the limit {limit}", row.cell.name())),
+        Some(((row, ratio), limit)) => Err(format!("{}: a/{letter} is {ratio:.3}, the limit {limit}", row.cell.name())),
         None => Ok(()),
     }
 }
@@ -123,7 +123,7 @@ fn judge_order(rows: &[Row], limits: Limits) -> Result<(), String> {
     for (shape, limit) in ORDER_LIMITS {
         let ratio = against_order(rows, shape);
         println!("The highest of a full {} table against the ascending one, in (a): {ratio:.2}.", shape.name());
-        if limits[0].is_finite() && ratio > limit {
+        if limits.plain[0].is_finite() && ratio > limit {
             return Err(format!("a full {} table takes {ratio:.3} times the ascending one, the limit is {limit}", shape.name()));
         }
     }
@@ -143,7 +143,8 @@ fn run() -> Result<(), String> {
     let rows = table(&cells, &rounds, kit.as_deref());
     growth(&rows, "instructions");
     without_copies(&rounds);
-    judge(&rows, options.limits)?;
+    judge(&rows, 'e', options.limits.plain)?;
+    judge(&rows, 'c', options.limits.tuned)?;
     judge_order(&rows, options.limits)
 }
 

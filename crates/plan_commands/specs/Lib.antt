@@ -1,0 +1,2 @@
+-- What one command of a plan leaves.
+pub mod Ran

@@ -1,0 +1,2 @@
+-- How a plan is set up.
+pub mod Setting
