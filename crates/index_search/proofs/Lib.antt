@@ -5,3 +5,4 @@ pub mod Running
 pub mod Shifting
 pub mod Numbering
 pub mod Changing
+pub mod Spanning
