@@ -37,6 +37,11 @@ module _ (m : Mapping) (e : isEmpty m ≡ true) where
   pub empty-alone : (page : ℕ) → recordAlone page m ≡ true
   empty-alone page = alone-released page m empty-released ∙ empty-fields
 
+-- a record in use is not empty
+pub used-full : (m : Mapping) → used m ≡ true → isEmpty m ≡ false
+unfolding isEmpty
+used-full m u = rw u
+
 -- a record that is not empty and keeps its rules is in use
 pub full-used : (page : ℕ) (m : Mapping) → isEmpty m ≡ false → recordAlone page m ≡ true → used m ≡ true
 unfolding isEmpty

@@ -28,7 +28,7 @@ struct Standing {
 }
 
 // The next record from a place on that holds something. Where there is none: the number of records.
-fn next_used(ws: &[[u64; 5]], from: usize) -> usize
+fn skip_blank(ws: &[[u64; 5]], from: usize) -> usize
     requires { ⌜ (from ≤ 128) × (length (now ws) ≡ 128) ⌝ }
     ensures { λ j. ⌜ Next (recordsOf (now (ws .entry))) from j ⌝ }
 {
@@ -40,6 +40,19 @@ fn next_used(ws: &[[u64; 5]], from: usize) -> usize
         j += 1;
     }
     j
+}
+
+// The same. Most records that are asked for are in use, and of such a one a single word is read, not five.
+fn next_used(ws: &[[u64; 5]], from: usize) -> usize
+    requires { ⌜ (from ≤ 128) × (length (now ws) ≡ 128) ⌝ }
+    ensures { λ j. ⌜ Next (recordsOf (now (ws .entry))) from j ⌝ }
+{
+    if from < 128 {
+        if layout_mappings::is_used(ws, from) {
+            return from;
+        }
+    }
+    skip_blank(ws, from)
 }
 
 // The rules of a record in use, given the alignment of its space: the first that is broken ends it.

@@ -1,28 +1,14 @@
--- The place that a device names, and one turn of the pass over the objects.
-use Prim.Native.Nat.{ℕ, _+_, _-_, _≤_, _<_}
+-- One turn of the pass over the objects.
+use Prim.Native.Nat.{ℕ, _+_, _≤_, _<_}
 use mathlib.Core.Path.{_≡_, refl}
 use mathlib.Core.Bool.{Bool, true, false}
 use mathlib.Core.List.{List}
 use native.Mathlib.Omega.{arith}
 use lib.ListN.{length, getD, drop}
-use borrow.Author.Tests.{le-leb, lt-leb}
 use Rattle.lists.specs.Search.{all, all-failed, all-on, all-end}
-use Rattle.rules_table.specs.declared.Attachment.{Attachment}
-use Rattle.rules_table.specs.declared.Attachment.the-variants.{Attached}
 use Rattle.rules_table.specs.declared.Object.{Object}
 use Rattle.rules_table.specs.Records.{zeroObject}
 use Rattle.table.specs.Checked.{objectOk, objectsOk}
-use Rattle.check_objects.specs.Judged.{placeBy}
-
-module _ (s : ℕ) (a : Attachment) (e : a ≡ Attached s) where
-  pub place-low : s < 1 → 0 ≡ placeBy a
-  place-low h = rw (e, lt-leb 1 s h)
-
-  pub place-high : 32 < s → 0 ≡ placeBy a
-  place-high h = rw (e, le-leb 1 s (omega arith), lt-leb s 32 h)
-
-  pub place-in : 1 ≤ s → s ≤ 32 → s - 1 ≡ placeBy a
-  place-in h k = rw (e, le-leb 1 s h, le-leb s 32 k)
 
 -- the objects from place i on are good
 unfoldable pub okLeft : ℕ → List Object → Bool

@@ -2,4 +2,3 @@ pub mod Judging
 pub mod Paging
 pub mod Passing
 pub mod Skipping
-pub mod Zeroing

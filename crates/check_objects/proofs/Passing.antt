@@ -13,6 +13,7 @@ use Rattle.wire.specs.Fields.{zeros}
 use Rattle.rangelists.specs.declared.Found.{Found}
 use Rattle.rangelists.specs.declared.Found.the-variants.{Nothing, At}
 use Rattle.rangelists.specs.Listed.{found}
+use Rattle.rules_table.specs.declared.Kind.{Kind}
 use Rattle.rules_table.specs.declared.Object.{Object}
 use Rattle.rules_table.specs.Records.{zeroObject, freeObject, isFree}
 use Rattle.rules_table.specs.Charge.{freeRecord}
@@ -21,7 +22,7 @@ use Rattle.table.specs.Checked.{objectOk, objectsOk}
 use Rattle.check_objects.specs.declared.Pass.{Pass}
 use Rattle.check_objects.specs.declared.Turn.{Turn}
 use Rattle.check_objects.specs.Pages.{slotOf, askOf}
-use Rattle.check_objects.specs.Judged.{namedPlace, fitsBy, judged-ok}
+use Rattle.object_rules.specs.Judged.{namedPlace, fitsBy, judged-ok}
 use Rattle.check_objects.specs.Passed.{Turned, Next, Passed, freeAfter, freeTo}
 use Rattle.check_objects.proofs.Judging.{okLeft, ok-start, ok-failed, ok-on, ok-end}
 use Rattle.check_objects.proofs.Paging.{Kept, kept-start, kept-on, kept-skip, kept-end}
@@ -30,19 +31,18 @@ use Rattle.check_objects.proofs.Paging.{Kept, kept-start, kept-on, kept
 
 module _ (os : List Object) (i : ℕ) (many : length os ≡ 32) (t : Turn) where
   -- an object judged with the one that it names
-  pub turned : (o h : Object) (j : ℕ) → o ≡ getD os i zeroObject → j ≡ namedPlace (o .kind) → h ≡ getD os j zeroObject
-      → t .good ≡ fitsBy h o (o .kind) → t .free ≡ isFree (o .kind)
-      → t .slot ≡ slotOf (i + 1) (o .kind) → t .slot < 33 → t .page ≡ askOf (o .bitmap) (o .kind) → Turned os i t
-  turned o h j eo ej eh eg ef es l ep = record {
+  pub turned : (k : Kind) (w : ℕ) → k ≡ getD os i zeroObject .kind → w ≡ getD os i zeroObject .bitmap
+      → t .good ≡ fitsBy (getD os (namedPlace k) zeroObject) (getD os i zeroObject) k → t .free ≡ isFree k
+      → t .slot ≡ slotOf (i + 1) k → t .slot < 33 → t .page ≡ askOf w k → Turned os i t
+  turned k w ek ew eg ef es l ep = record {
     good =
         eg
-        ∙ ap (λ (x : Object). fitsBy x o (o .kind)) (eh ∙ ap (λ (n : ℕ). getD os n zeroObject) ej)
-        ∙ judged-ok os o many
-        ∙ ap (objectOk os) eo;
-    free = ef ∙ ap (λ (x : Object). isFree (x .kind)) eo;
-    slot = es ∙ ap (λ (x : Object). slotOf (i + 1) (x .kind)) eo;
+        ∙ ap (λ (n : Kind). fitsBy (getD os (namedPlace n) zeroObject) (getD os i zeroObject) n) ek
+        ∙ judged-ok os (getD os i zeroObject) many;
+    free = ef ∙ ap isFree ek;
+    slot = es ∙ ap (slotOf (i + 1)) ek;
     below = l;
-    page = ep ∙ ap (λ (x : Object). askOf (x .bitmap) (x .kind)) eo;
+    page = ep ∙ ap (λ (n : ℕ). askOf n k) ew ∙ ap (askOf (getD os i zeroObject .bitmap)) ek;
   }
 
 -- ---- the lowest free record, from place i on

@@ -1,4 +1,3 @@
 -- Good objects as the code checks them, the pages of all spaces, and what one pass over the records tells.
-pub mod Judged
 pub mod Pages
 pub mod Passed

@@ -21,7 +21,7 @@ use Rattle.rules_table.specs.Records.{isSpace, attachedTo, zeroObject, objectAt
 use Rattle.rules_table.specs.Spaces.{pageFor, alignment}
 use Rattle.rules_table.specs.Good.{deviceNames, deviceValid, listValid, listClear, objectZero}
 use Rattle.table.specs.Checked.{objectOk, objectsOk, pageAt, kindNames}
-use Rattle.check_objects.specs.Judged.{spaceAt-past, spaceAt-slot, spaceAt-pos, spaceAt-upto}
+use Rattle.object_rules.specs.Judged.{spaceAt-past, spaceAt-slot, spaceAt-pos, spaceAt-upto}
 
 -- the pages of a table's spaces, by their ids
 pub record Pages (os : List Object) (pages : List ℕ) : Type 0 where

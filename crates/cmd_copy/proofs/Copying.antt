@@ -1,7 +1,7 @@
 -- COPY: the checks as the code makes them, then one law for each return: the numbers, the source, the place or the records refused, or the copy is made.
-use Prim.Native.Nat.{ℕ, suc, _<_}
+use Prim.Native.Nat.{ℕ, suc}
 use mathlib.Core.Path.{_≡_, refl, sym, ap, _∙_}
-use borrow.Author.Tests.{not-false, not-true, eqb-false}
+use borrow.Author.Tests.{not-false}
 use mathlib.Core.Bool.{Bool, true, false, not, _&&_}
 use mathlib.Core.List.{List, [], _∷_, _++_}
 use mathlib.Core.Option.{Option}
@@ -43,9 +43,6 @@ numbers-are os flags s from n x y r1 r2 r3 r4 r5 r6 r7 un nr wr pa fi tg kn eun 
     (checked fi (fixedPasses flags x n) 75 r3 r2 0 _ e3 efi
     (checked (not tg) (not (spaceAt os s)) 2 r2 r1 0 _ e2 (ap (λ (b : Bool). not b) etg)
     (checked-last (not kn) (not (spaceAt os from)) 2 r1 0 e1 (ap (λ (b : Bool). not b) ekn)))))))
-
-pub not-zero : (a : ℕ) → not (eqb a 0) ≡ true → 0 < a
-not-zero a e = let n = eqb-false a 0 (not-true (eqb a 0) e) in omega (arith, n)
 
 -- a check that is followed by 0 has not fired
 through : (b : Bool) (n rest r : ℕ) → r ≡ first (when b (suc n) ∷ []) rest → r ≡ 0 → (b ≡ false) × (rest ≡ 0)

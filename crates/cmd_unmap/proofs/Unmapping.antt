@@ -1,14 +1,13 @@
 -- UNMAP: the checks as the code makes them, then one law for each return: the numbers or the mappings refused, or the mappings inside go.
-use Prim.Native.Nat.{ℕ, _≤_}
+use Prim.Native.Nat.{ℕ}
 use mathlib.Core.Path.{_≡_, refl, sym, ap, _∙_}
 use mathlib.Core.Bool.{Bool, true, false, not, _&&_}
 use mathlib.Core.List.{List, [], _∷_}
 use native.Mathlib.Omega.{arith}
 use lib.Dec.{eqb}
-use Rattle.lists.specs.Tests.{by-test}
 use Rattle.lists.specs.Checks.{when, first, first-append, first-stays, first-goes, Refusals, passed}
 use Rattle.ranges.specs.declared.Range.{Range}
-use Rattle.ranges.specs.Ranges.{U64MAX, passes, span, span-some}
+use Rattle.ranges.specs.Ranges.{U64MAX, passes, span}
 use Rattle.rules_table.specs.declared.Object.{Object}
 use Rattle.rules_table.specs.declared.Mapping.{Mapping}
 use Rattle.rules_table.specs.Records.{freeObject, objectAt, spaceAt}
@@ -48,11 +47,6 @@ unfolding unmapNumberChecks spaceAt objectAt
 is-known true a n w f e = refl
 is-known false a n w f e =
     sym (passed (unmapNumberChecksAt [] 0 a n) 0 (when false 0) (λ y. omega (arith, y), (λ y. omega (arith, y), (λ y. omega (arith, y), tt))) (sym (f [] 0 refl) ∙ e) 2 (omega arith))
-
--- the range asked has an address
-pub asked-some : (a n : ℕ) (r : Range) → r ≡ rangeAsked a n → a ≤ U64MAX → r .start ≤ r .last
-unfolding rangeAsked span
-asked-some a n r q h = rw q (by-test (asksAll a n) (λ e. rw e (omega arith)) (λ e. rw e (span-some a n h)))
 
 -- ---- UNMAP
 

@@ -1,11 +1,14 @@
 -- The rules of five commands by the numbers of their fields, as the laws and the code hold them: each is the rule on the record of these numbers. And what a search found, as
 -- the code's enum has it.
-use Prim.Native.Nat.{ℕ}
+use Prim.Native.Nat.{ℕ, _≤_}
 use mathlib.Core.Path.{_≡_, refl}
 use mathlib.Core.Bool.{not}
 use mathlib.Core.List.{List}
 use mathlib.Core.Option.{Option, none, some}
+use native.Mathlib.Omega.{arith}
+use Rattle.lists.specs.Tests.{by-test}
 use Rattle.lists.specs.Checks.{Check}
+use Rattle.ranges.specs.Ranges.{U64MAX, span, span-some}
 use Rattle.rangelists.specs.declared.Found.{Found}
 use Rattle.rangelists.specs.declared.Found.the-variants.{Nothing, At}
 use Rattle.rangelists.specs.Listed.{found, isFound}
@@ -15,7 +18,7 @@ use Rattle.rules_calls.specs.declared.Edit.{Edit}
 use Rattle.rules_calls.specs.Edits.{isNone}
 use Rattle.rules_calls.specs.Map.{MapFields, mapNumberChecks, mapChecks, mapEdit}
 use Rattle.rules_calls.specs.Copy.{CopyFields, copyNumberChecks, copyChecks, copyEdit}
-use Rattle.rules_calls.specs.Unmap.{UnmapFields, unmapNumberChecks, unmapChecks, unmapEdit}
+use Rattle.rules_calls.specs.Unmap.{UnmapFields, asksAll, rangeAsked, unmapNumberChecks, unmapChecks, unmapEdit}
 use Rattle.rules_calls.specs.Allow.{AllowFields, allowNumberChecks, allowChecks, allowEdit}
 use Rattle.rules_calls.specs.Ranges.{RangesFields, rangesChecks, rangesErrno}
 
@@ -54,6 +57,11 @@ unmapChecksAt os ms s a n = unmapChecks os ms (unmapOf s a n)
 
 abbrev pub unmapEditAt : List Object → List Mapping → ℕ → ℕ → ℕ → Edit
 unmapEditAt os ms s a n = unmapEdit os ms (unmapOf s a n)
+
+-- the range that UNMAP asks for has an address
+pub asked-some : (a n : ℕ) → a ≤ U64MAX → rangeAsked a n .start ≤ rangeAsked a n .last
+unfolding rangeAsked span
+asked-some a n h = by-test (asksAll a n) (λ e. rw e (omega arith)) (λ e. rw e (span-some a n h))
 
 abbrev allowOf : ℕ → ℕ → ℕ → AllowFields
 allowOf s count z = record { space = s; count = count; mustBeZero = z }

@@ -17,7 +17,8 @@ use Rattle.placement.specs.Jumps.{pastOf, Swept}
 use Rattle.placement.specs.Sweeping.{past-here, past-end, past-on}
 use Rattle.rules_table.specs.declared.Mapping.{Mapping}
 use Rattle.rules_table.specs.Records.{zeroMapping, ofSpace, extent}
-use Rattle.layout_mappings.specs.Words.{low, recordAt, records-at}
+use Rattle.rules_table.specs.Words.{low}
+use Rattle.layout_mappings.specs.Words.{recordAt, records-at}
 use Rattle.gaps.specs.Steps.{beginsBy, meets, Stepped, StepBy}
 
 -- ---- the words of a record

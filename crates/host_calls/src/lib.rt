@@ -11,7 +11,7 @@ ghost use Rattle.check_table.specs.Known.{Known};
 ghost use Rattle.rules_calls.specs.Gate.{tableWith};
 ghost use Rattle.rules_index.specs.Board.{boardHost};
 ghost use Rattle.rules_calls.specs.Answers.{outcome, outcomeId};
-ghost use Rattle.rules_calls.specs.Orders.{orderFor, bindOrder, attachOrder, detachOrder, reachOrder, chargeOrder, nextOrder, reachedBy, actEdit, hostEdit};
+ghost use Rattle.rules_calls.specs.Orders.{bindOrder, attachOrder, detachOrder, reachOrder, reachedBy, actEdit, hostEdit};
 use check_table::Findings;
 use rangelists::Reserved;
 use rules_calls::Act;
@@ -20,97 +20,6 @@ use rules_calls::Edit;
 use rules_calls::Order;
 use rules_calls::Reached;
 use rules_table::Table;
-
-// ---- orders
-
-fn plain_order(act: Act, first: u32, second: u32) -> Order
-    ensures { λ o. ⌜ o ≡ orderFor act first second ⌝ }
-{
-    let reserved = Reserved {
-        count: 0,
-        starts: [0; 4],
-        lasts: [0; 4],
-    };
-    Order {
-        act,
-        first,
-        second,
-        bitmap: 0,
-        reserved,
-        address: 0,
-        length: 0,
-    }
-}
-
-pub fn bind_order(bitmap: u64, reserved: Reserved) -> Order
-    ensures { λ o. ⌜ o ≡ bindOrder bitmap reserved ⌝ }
-{
-    Order {
-        act: Act::Bind,
-        first: 0,
-        second: 0,
-        bitmap,
-        reserved,
-        address: 0,
-        length: 0,
-    }
-}
-
-pub fn attach_order(device: u32, space: u32) -> Order
-    ensures { λ o. ⌜ o ≡ attachOrder device space ⌝ }
-{
-    plain_order(Act::Attach, space, device)
-}
-
-pub fn detach_order(device: u32) -> Order
-    ensures { λ o. ⌜ o ≡ detachOrder device ⌝ }
-{
-    plain_order(Act::Detach, device, 0)
-}
-
-pub fn reach_order(device: u32, address: u64, length: u64, write: bool) -> Order
-    ensures { λ o. ⌜ o ≡ reachOrder device address length write ⌝ }
-{
-    let reserved = Reserved {
-        count: 0,
-        starts: [0; 4],
-        lasts: [0; 4],
-    };
-    Order {
-        act: Act::Reach(write),
-        first: device,
-        second: 0,
-        bitmap: 0,
-        reserved,
-        address,
-        length,
-    }
-}
-
-pub fn charge_order() -> Order
-    ensures { λ o. ⌜ o ≡ chargeOrder ⌝ }
-{
-    plain_order(Act::Charge, 0, 0)
-}
-
-pub fn next_order(space: u32, address: u64) -> Order
-    ensures { λ o. ⌜ o ≡ nextOrder space address ⌝ }
-{
-    let reserved = Reserved {
-        count: 0,
-        starts: [0; 4],
-        lasts: [0; 4],
-    };
-    Order {
-        act: Act::Next,
-        first: space,
-        second: 0,
-        bitmap: 0,
-        reserved,
-        address,
-        length: 0,
-    }
-}
 
 // ---- deciding
 
@@ -184,21 +93,21 @@ fn decided(t: Table, o: Order) -> Edit
 pub fn bind(t: Table, bitmap: u64, reserved: Reserved) -> Answer
     ensures { λ a. ⌜ a ≡ outcomeId t (hostEdit t (bindOrder bitmap reserved)) ⌝ }
 {
-    let e = decided(t, bind_order(bitmap, reserved));
+    let e = decided(t, host_orders::bind_order(bitmap, reserved));
     edits::settled_id(t, e)
 }
 
 pub fn attach(t: Table, device: u32, space: u32) -> Answer
     ensures { λ a. ⌜ a ≡ outcome t (hostEdit t (attachOrder device space)) ⌝ }
 {
-    let e = decided(t, attach_order(device, space));
+    let e = decided(t, host_orders::attach_order(device, space));
     edits::settled(t, e)
 }
 
 pub fn detach(t: Table, device: u32) -> Answer
     ensures { λ a. ⌜ a ≡ outcome t (hostEdit t (detachOrder device)) ⌝ }
 {
-    let e = decided(t, detach_order(device));
+    let e = decided(t, host_orders::detach_order(device));
     edits::settled(t, e)
 }
 
@@ -206,7 +115,7 @@ pub fn detach(t: Table, device: u32) -> Answer
 pub fn reach(t: Table, device: u32, address: u64, length: u64, write: bool) -> Reached
     ensures { λ r. ⌜ r ≡ reachedBy (hostEdit t (reachOrder device address length write)) ⌝ }
 {
-    let e = decided(t, reach_order(device, address, length, write));
+    let e = decided(t, host_orders::reach_order(device, address, length, write));
     Reached {
         result: opening::signed_result(e.errno),
         address: e.value,

@@ -45,10 +45,6 @@ home-pos k a n x s e z h f =
     let p = passed (reachChecks k a n) 0 (when false 0) (λ y. omega (arith, y), (λ y. omega (arith, y), (λ y. omega (arith, y), (λ y. omega (arith, y), tt)))) (sym e ∙ z) 1 (omega arith) in
     omega (arith, h, f (not-false (isAttached k) p))
 
-pub asked-some : (a n : ℕ) (r : Range) → r ≡ span a n → a ≤ U64MAX → r .start ≤ r .last
-unfolding span
-asked-some a n r q h = rw q (span-some a n h)
-
 -- a record of a good table ends in memory by U64MAX, also a released one
 memory-last : (os : List Object) (m : Mapping) → recordOk os m ≡ true → m .memory + (m .length - 1) ≤ U64MAX
 memory-last os m e =

@@ -1,4 +1,3 @@
 pub mod Counting
-pub mod Shifting
 pub mod Firsts
 pub mod Entering

@@ -1,3 +1,4 @@
+pub mod Comparing
 pub mod Halving
 pub mod Telling
 pub mod Adding

@@ -4,8 +4,7 @@ use mathlib.Core.Path.{_≡_, refl, sym, ap, subst, _∙_}
 use mathlib.Core.Bool.{Bool, true, false, not, _&&_}
 use mathlib.Core.List.{List}
 use native.Mathlib.Omega.{arith}
-use lib.Dec.{eqb}
-use Rattle.lists.specs.Tests.{by-test, contrary}
+use Rattle.lists.specs.Tests.{by-test}
 use Rattle.rules_calls.specs.declared.Command.{Command}
 use Rattle.rules_calls.specs.declared.Command.the-variants.{IovaRanges}
 use Rattle.rules_calls.specs.declared.Row.the-variants.{Listed}
@@ -163,7 +162,3 @@ pub page-pos : (pages : List ℕ) (s t r : ℕ) → r ≡ pageOf pages s → s �
 unfolding pageOf
 page-pos pages zero t r e q h = absurd (omega (arith, e, h))
 page-pos pages (suc s) t r e q h = omega (arith, q)
-
-pub not-zero : (a : ℕ) → not (eqb a 0) ≡ true → 0 < a
-not-zero zero e = contrary false e refl
-not-zero (suc a) e = omega arith

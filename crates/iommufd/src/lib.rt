@@ -72,7 +72,7 @@ fn destroy(h: &[u64; 865], id: u32) -> Edit
 }
 
 // What a command that is open decides over a good table, by what the check has found of it. The reply is written.
-fn answer<'a>(
+fn decide_command<'a>(
     h: &'a [u64; 865],
     ws: &'a [[u64; 5]],
     ix: &'a [u64],
@@ -138,7 +138,7 @@ pub fn decide<'a>(
         return edits::refusal(errno);
     }
     let c = command_in(opening);
-    answer(h, ws, ix, &pages, &marks, f, c, cmd, area)
+    decide_command(h, ws, ix, &pages, &marks, f, c, cmd, area)
 }
 
 // A driver's command: its request number, its bytes and the range area, which are changed in place. The result is 0 or the negative of an errno. A refusal changes

@@ -8,10 +8,10 @@ use native.Mathlib.Omega.{arith}
 use lib.Dec.{leb}
 use lib.ListN.{length, getD}
 use borrow.Author.Tests.{le-leb}
-use Rattle.lists.specs.Tests.{by-test, and-both}
+use Rattle.lists.specs.Tests.{and-both}
 use Rattle.lists.specs.Search.{any}
 use Rattle.lists.specs.Checks.{first}
-use Rattle.ranges.specs.Ranges.{U64MAX, span, span-some, passes, passes-false}
+use Rattle.ranges.specs.Ranges.{U64MAX, span, passes, passes-false}
 use Rattle.wire.specs.Fields.{field}
 use Rattle.rules_table.specs.declared.Kind.{Kind}
 use Rattle.rules_table.specs.declared.Kind.the-variants.{Free, Space, Device}
@@ -40,14 +40,14 @@ use Rattle.rules_calls.specs.Objects.{allocChecks, allocEdit, destroyChecks, re
 use Rattle.rules_calls.specs.Allow.{allowEdit}
 use Rattle.rules_calls.specs.Map.{mapped, foundOf, founding, mapEdit}
 use Rattle.rules_calls.specs.Copy.{sourceOf, sourceMapping, copyOf, copying, copyEdit}
-use Rattle.rules_calls.specs.Unmap.{asksAll, rangeAsked, unmapEdit}
+use Rattle.rules_calls.specs.Unmap.{unmapEdit}
 use Rattle.rules_calls.specs.Bind.{newDevice, bindEdit, bindRule}
 use Rattle.rules_calls.specs.Attach.{attachChecks, attachEdit, detachChecks, detachEdit}
 use Rattle.rules_calls.specs.Reach.{around, reachChecks, heldChecks, reachBy, reachOf}
 use Rattle.rules_calls.specs.Orders.{actEdit, hostEdit}
 use Rattle.rules_calls.specs.Call.{commandEdit, rowEdit, callEdit}
 use Rattle.table.specs.Sound.{Sound, good-sound}
-use Rattle.edits.specs.Numbers.{mapChecksAt, mapEditAt, copyChecksAt, copyEditAt, unmapChecksAt, unmapEditAt, allowChecksAt}
+use Rattle.edits.specs.Numbers.{asked-some, mapChecksAt, mapEditAt, copyChecksAt, copyEditAt, unmapChecksAt, unmapEditAt, allowChecksAt}
 use Rattle.rules_index.specs.Index.{agrees}
 use Rattle.rules_index.specs.Board.{Board, indexAfter, guarded, boardEdit, boardHost}
 use Rattle.index.specs.Touched.{sits}
@@ -116,16 +116,12 @@ module _ (t : Table) (g : Sound t) (flags s n x : ℕ) where
 
 -- ---- a removal
 
-asked-some : (a n : ℕ) → passes a n ≡ false → rangeAsked a n .start ≤ rangeAsked a n .last
-unfolding rangeAsked span
-asked-some a n e = by-test (asksAll a n) (λ t. rw t (omega arith)) (λ t. rw t (span-some a n (omega (arith, passes-false a n e))))
-
 unmap-shown : (t : Table) (s a n : ℕ) → Shown (t .mappings) (unmapEditAt (t .objects) (t .mappings) s a n .change)
 unfolding unmapEdit
 unmap-shown t s a n =
     settle-shown (t .mappings) (first (unmapChecksAt (t .objects) (t .mappings) s a n) 0) _ (λ e.
     let p = unmap-passed (t .objects) (t .mappings) s a n e in
-    (space-some (t .objects) s (p .space), asked-some a n (p .ends), p .uncut))
+    (space-some (t .objects) s (p .space), asked-some a n (omega (arith, passes-false a n (p .ends))), p .uncut))
 
 -- ---- every other change
 

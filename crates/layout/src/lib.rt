@@ -2,12 +2,26 @@
 // a kind that is none becomes a device attached to no space, which no good table has.
 ghost use mathlib.Core.Path.{_≡_};
 ghost use Rattle.rules_table.specs.Layout.{kindOf, tagOf, decoded, encoded};
+ghost use Rattle.rules_table.specs.Words.{low, high};
 use rangelists::Allowed;
 use rangelists::Reserved;
 use rules_table::Attachment;
 use rules_table::Kind;
 use rules_table::Object;
 use rules_table::RawObject;
+
+// The two halves of a word.
+pub fn low(w: u64) -> u32
+    ensures { λ r. ⌜ r ≡ low w ⌝ }
+{
+    (w % 4294967296) as u32
+}
+
+pub fn high(w: u64) -> u32
+    ensures { λ r. ⌜ r ≡ high w ⌝ }
+{
+    (w / 4294967296 % 4294967296) as u32
+}
 
 pub fn kind_of(kind: u32, home: u32) -> Kind
     ensures { λ k. ⌜ k ≡ kindOf kind home ⌝ }

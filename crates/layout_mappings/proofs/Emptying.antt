@@ -9,8 +9,9 @@ use lib.ListN.{getD}
 use borrow.Author.Tests.{eqb-true, eq-eqb}
 use Rattle.lists.specs.Tests.{same-test, and-left, and-right}
 use Rattle.rules_table.specs.Records.{used}
+use Rattle.rules_table.specs.Words.{low, high}
 use Rattle.records.specs.Alone.{zeroFields}
-use Rattle.layout_mappings.specs.Words.{low, high, recordOf, isEmpty}
+use Rattle.layout_mappings.specs.Words.{recordOf, isEmpty}
 
 -- both halves of a word are zero
 halves : (w : ℕ) → w < 2 ^ 64 → low w ≡ 0 → high w ≡ 0 → w ≡ 0

@@ -1,5 +1,5 @@
 -- The mapping that five words stand for, and the words of a mapping. Word 0: space and rights; word 1: founder and backing; then address, length, memory.
-use Prim.Native.Nat.{ℕ, zero, suc, _+_, _*_, _/_, _%_, _≤_, _<_}
+use Prim.Native.Nat.{ℕ, zero, suc, _+_, _*_, _≤_, _<_}
 use mathlib.Core.Path.{_≡_, refl, sym, ap, _∙_}
 use mathlib.Core.Bool.{Bool, not, _&&_}
 use mathlib.Core.List.{List, [], _∷_, _++_, map}
@@ -9,15 +9,9 @@ use lib.ListN.{length, getD, set, take, List·getD-map, length-map, length-set}
 use lib.Seq.{take-all, take-suc-set}
 use Rattle.rules_table.specs.declared.Mapping.{Mapping}
 use Rattle.rules_table.specs.Records.{used, zeroMapping}
+use Rattle.rules_table.specs.Words.{low, high}
 use Rattle.records.specs.Alone.{zeroFields}
 use Rattle.lists.specs.Ends.{take-turn}
-
--- the two halves of a word
-abbrev pub low : ℕ → ℕ
-low w = w % 4294967296
-
-abbrev pub high : ℕ → ℕ
-high w = w / 4294967296 % 4294967296
 
 abbrev pub joined : ℕ → ℕ → ℕ
 joined a b = a + 4294967296 * b

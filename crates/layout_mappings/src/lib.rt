@@ -33,6 +33,14 @@ pub fn record(ws: &[[u64; 5]], i: usize) -> Mapping
     decoded(ws, i)
 }
 
+// Whether a record is in use: half a word tells.
+pub fn is_used(ws: &[[u64; 5]], i: usize) -> bool
+    requires { ⌜ i < length (now ws) ⌝ }
+    ensures { λ b. ⌜ b ≡ used (recordAt (now (ws .entry)) i) ⌝ }
+{
+    ws[i][0] % 4294967296 != 0
+}
+
 // The words of a mapping: read back they are the mapping.
 pub fn words(m: Mapping) -> [u64; 5]
     ensures { λ w. ⌜ (w ≡ wordsOf m) × (recordOf w ≡ m) ⌝ }

@@ -6,6 +6,7 @@ use native.Mathlib.Nat.{le-of-suc-le-suc, not-suc-le-zero}
 use native.Mathlib.Omega.{arith}
 use lib.ListN.{length, getD, length-map}
 use Rattle.rules_table.specs.declared.Object.{Object}
+use Rattle.rules_table.specs.declared.Kind.the-variants.{Free}
 use Rattle.rangelists.specs.declared.Reserved.{Reserved}
 use Rattle.rules_table.specs.Records.{zeroObject, freeObject, objectAt}
 use Rattle.rules_table.specs.Layout.{decoded, kindOf}
@@ -42,6 +43,9 @@ pub kind-words : (h : List ℕ) (i kind home : ℕ) → i < 32 → kind ≡ low 
     → kindOf kind home ≡ getD (objectsIn h) i zeroObject .kind
 unfolding decoded
 kind-words h i kind home l e f = rw (e, f) (sym (ap (λ (o : Object). o .kind) (object-words h i l)))
+
+pub kind-blank : (h : List ℕ) (i : ℕ) → i < 32 → getD h (27 * i + 1) 0 ≡ 0 → Free ≡ getD (objectsIn h) i zeroObject .kind
+kind-blank h i l e = kind-words h i 0 0 l (sym (ap low e)) (sym (ap high e))
 
 pub reserved-words : (h : List ℕ) (i : ℕ) → i < 32 → getD (objectsIn h) i zeroObject .reserved ≡ reservedIn h (27 * i + 1)
 unfolding decoded

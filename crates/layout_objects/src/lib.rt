@@ -1,11 +1,11 @@
 // The object records of a head of 865 words, in place: one is read where it is judged or used, and one is written.
 ghost use mathlib.Core.Path.{_≡_};
 ghost use mathlib.Core.Bool.{true};
-ghost use Prim.Native.Nat.{_+_, _*_, _≤_, _<_};
+ghost use Prim.Native.Nat.{_+_, _≤_, _<_};
 ghost use lib.ListN.{length, getD};
 ghost use Rattle.rules_table.specs.Records.{zeroObject, objectAt, freeObject};
 ghost use Rattle.rules_table.specs.Layout.{encoded, freshHead};
-ghost use Rattle.rules_table.specs.Words.{low, high, fourAt, eightAt, rawAt, headIn, objectsIn};
+ghost use Rattle.rules_table.specs.Words.{fourAt, eightAt, rawAt, headIn, objectsIn};
 ghost use Rattle.layout_objects.specs.Writing.{withRecord, putUpTo};
 use rangelists::Reserved;
 use rules_table::Kind;
@@ -41,18 +41,6 @@ fn eight_at(h: &[u64; 865], b: usize) -> [u64; 8]
     ]
 }
 
-fn low(w: u64) -> u32
-    ensures { λ r. ⌜ r ≡ low w ⌝ }
-{
-    (w % 4294967296) as u32
-}
-
-fn high(w: u64) -> u32
-    ensures { λ r. ⌜ r ≡ high w ⌝ }
-{
-    (w / 4294967296 % 4294967296) as u32
-}
-
 // The numbers of the record whose words begin at b.
 fn raw_at(h: &[u64; 865], b: usize) -> RawObject
     requires { ⌜ b + 27 ≤ 865 ⌝ }
@@ -65,11 +53,11 @@ fn raw_at(h: &[u64; 865], b: usize) -> RawObject
     let froms = eight_at(h, b + 11);
     let ends = eight_at(h, b + 19);
     RawObject {
-        kind: low(k),
-        home: high(k),
+        kind: layout::low(k),
+        home: layout::high(k),
         bitmap: h[b + 1],
-        reserves: low(c),
-        allows: high(c),
+        reserves: layout::low(c),
+        allows: layout::high(c),
         starts,
         lasts,
         froms,
@@ -85,14 +73,17 @@ pub fn object_at(h: &[u64; 865], i: usize) -> Object
     layout::decode(raw_at(h, 27 * i + 1))
 }
 
-// Its kind alone.
+// Its kind alone. Most records are free, and a word of 0 is not taken apart.
 pub fn kind_at(h: &[u64; 865], i: usize) -> Kind
     requires { ⌜ i < 32 ⌝ }
     ensures { λ k. ⌜ k ≡ getD (objectsIn (now (h .entry))) i zeroObject .kind ⌝ }
 {
     let w = h[27 * i + 1];
-    let kind = low(w);
-    let home = high(w);
+    if w == 0 {
+        return Kind::Free;
+    }
+    let kind = layout::low(w);
+    let home = layout::high(w);
     layout::kind_of(kind, home)
 }
 
@@ -105,7 +96,7 @@ pub fn reserved_at(h: &[u64; 865], i: usize) -> Reserved
     let starts = four_at(h, b + 3);
     let lasts = four_at(h, b + 7);
     Reserved {
-        count: low(h[b + 2]),
+        count: layout::low(h[b + 2]),
         starts,
         lasts,
     }

@@ -5,17 +5,13 @@ use mathlib.Core.Bool.{false}
 use mathlib.Core.List.{List}
 use mathlib.Core.Option.{Option, none, some}
 use native.Mathlib.Omega.{arith}
-use lib.IntN.{ℤ, pos}
-use lib.ListN.{length, getD, replicate}
-use borrow.Author.Tests.{eq-eqb, ne-eqb, lt-ltb, le-ltb}
+use lib.IntN.{ℤ}
+use lib.ListN.{length, getD}
 use Rattle.lists.specs.Tests.{by-test}
-use Rattle.opening.specs.Signed.{result-zero}
 use Rattle.rules_calls.specs.Results.{result}
 use Rattle.rules_table.specs.declared.Mapping.{Mapping}
 use Rattle.rules_table.specs.declared.Head.{Head}
-use Rattle.rules_table.specs.Records.{zeroMapping}
-use Rattle.rules_table.specs.Limits.{mostLimit}
-use Rattle.rules_table.specs.Layout.{tableOf, freshHead}
+use Rattle.rules_table.specs.Layout.{tableOf}
 use Rattle.rules_table.specs.Words.{headIn}
 use Rattle.table.specs.Sound.{good-sound}
 use Rattle.rules_calls.specs.declared.Edit.{Edit}
@@ -23,20 +19,19 @@ use Rattle.rules_calls.specs.declared.Order.{Order}
 use Rattle.rules_calls.specs.Edits.{refuse}
 use Rattle.rules_index.specs.Board.{goodBoard, indexAfter, boardHost}
 use Rattle.rules_lent.specs.Lent.{headAfter, recordsAfter, boardOf}
-use Rattle.rules_lent.specs.Entries.{LentCall, Preview, LentHost, LentFresh, LentNone, freshErrno, orderIn}
+use Rattle.rules_lent.specs.Entries.{LentCall, Preview, LentHost, LentNone, orderIn}
 use Rattle.laws_board.specs.Answers.{good-table}
 use Rattle.laws_board.specs.Refused.{bad-board, board-bad, board-host-bad}
 use Rattle.laws_board.specs.Deciding.{board-host-index}
 use Rattle.layout_mappings.specs.Words.{recordsOf}
 use Rattle.lent_records.specs.Loading.{Loaded}
 use Rattle.lent_records.specs.Records.{stored}
-use Rattle.lent_records.specs.Lent.{stored-wipe}
-use Rattle.lent_records.specs.Stored.{stored-keep}
-use Rattle.lent_records.specs.declared.Records.the-variants.{Wipe}
 use Rattle.iommufd.specs.Deciding.{Decided}
-use Rattle.lent_core.specs.declared.Served.{Served}
+use Rattle.lent_edit.specs.declared.Served.{Served}
+use Rattle.lent_edit.specs.Edits.{servedBy, records-written, refused-head, refused-records, refused-result}
+use Rattle.lent_fresh.specs.Endings.{FreshServed}
+use Rattle.lent_order.specs.Orders.{toldIn, told-none, no-order, fresh-order}
 use Rattle.lent_core.specs.Serving.{CallServed, PreviewServed, HostServed}
-use Rattle.lent_core.specs.Edits.{servedBy, toldIn, told-none, records-written}
 
 -- ---- another number of records
 
@@ -53,11 +48,6 @@ module _ (h : Head) (ms : List Mapping) (ix : List ℕ) (n : length ms ≡ 128 �
   short-decided request cmd area =
       let q = board-bad (boardOf h ms ix) short-bad request cmd area .1 in
       record { edit = sym (bad-board (boardOf h ms ix) short-bad request cmd area); reply = sym (q .1); ranges = sym (q .2) }
-
--- a refusal writes nothing
-refused-head : (n : ℕ) (h : Head) → h ≡ headAfter (refuse n) h
-unfolding headAfter
-refused-head n h = refl
 
 -- ---- commands
 
@@ -118,23 +108,6 @@ abbrev orElse : Order → Option Order → Order
 orElse p none = p
 orElse p (some o) = o
 
--- what a kind that is none asks
-pub no-order : (kind : ℕ) (vs : List ℕ) → 6 < kind → orderIn kind vs ≡ none
-unfolding orderIn
-no-order kind vs k =
-    rw (
-      ne-eqb kind 1 (λ z. omega (arith, z, k)),
-      ne-eqb kind 2 (λ z. omega (arith, z, k)),
-      ne-eqb kind 3 (λ z. omega (arith, z, k)),
-      ne-eqb kind 4 (λ z. omega (arith, z, k)),
-      ne-eqb kind 5 (λ z. omega (arith, z, k)),
-      ne-eqb kind 6 (λ z. omega (arith, z, k)),
-    )
-
-fresh-order : (kind : ℕ) (vs : List ℕ) → kind ≡ 0 → orderIn kind vs ≡ none
-unfolding orderIn
-fresh-order kind vs k = rw k
-
 -- an edit of the order, committed and told; the index stays
 module _ (h : Head) (ms : List Mapping) (ix : List ℕ) (o : Order) (vs : List ℕ) (e : Edit) (d : e ≡ boardHost (boardOf h ms ix) o) where
   order-done : (s : Served) (h′ : Head) (vs′ : List ℕ) → s ≡ servedBy e → h′ ≡ headAfter e h → vs′ ≡ toldIn (e .errno) (e .value) vs
@@ -146,63 +119,6 @@ module _ (h : Head) (ms : List Mapping) (ix : List ℕ) (o : Order) (vs : List �
     records = ap (λ (x : Served). stored (x .records) ms) es ∙ records-written ms e ∙ ap (λ (x : Edit). recordsAfter x ms) d;
     index = sym (board-host-index (boardOf h ms ix) o ms ix);
     told = ev ∙ ap (λ (x : Edit). toldIn (x .errno) (x .value) vs) d;
-  }
-
--- fresh: for every slice of so many records
-pub record FreshServed (h : List ℕ) (count : ℕ) (bs : List ℕ) (limit : ℕ) (s : Served) (h′ bs′ : List ℕ) : Type 0 where
-  pub served : (ms : List Mapping) → length ms ≡ count → LentFresh (headIn h) ms bs limit (s .result) (headIn h′) (stored (s .records) ms) bs′
-
-refused-records : (n : ℕ) (ms : List Mapping) → stored (servedBy (refuse n) .records) ms ≡ ms
-unfolding servedBy
-refused-records n ms = stored-keep ms
-
-refused-result : (n : ℕ) → servedBy (refuse n) .result ≡ result n
-unfolding servedBy
-refused-result n = refl
-
--- the errno of fresh
-errno-short : (ms : List Mapping) (ix : List ℕ) (limit : ℕ) → (length ms ≡ 128 → ⊥) → freshErrno ms ix limit ≡ 117
-errno-short ms ix limit n = rw (ne-eqb (length ms) 128 n)
-
-errno-other : (ms : List Mapping) (ix : List ℕ) (limit : ℕ) → length ms ≡ 128 → (length ix ≡ 128 → ⊥) → freshErrno ms ix limit ≡ 117
-errno-other ms ix limit l n = rw (eq-eqb (length ms) 128 l, ne-eqb (length ix) 128 n)
-
-errno-over : (ms : List Mapping) (ix : List ℕ) (limit : ℕ) → length ms ≡ 128 → length ix ≡ 128 → mostLimit < limit → freshErrno ms ix limit ≡ 22
-errno-over ms ix limit l k m = rw (eq-eqb (length ms) 128 l, eq-eqb (length ix) 128 k, lt-ltb mostLimit limit m)
-
-errno-none : (ms : List Mapping) (ix : List ℕ) (limit : ℕ) → length ms ≡ 128 → length ix ≡ 128 → limit ≤ mostLimit → freshErrno ms ix limit ≡ 0
-errno-none ms ix limit l k m = rw (eq-eqb (length ms) 128 l, eq-eqb (length ix) 128 k, le-ltb mostLimit limit m)
-
-module _ (h : List ℕ) (count : ℕ) (bs : List ℕ) (limit : ℕ) where
-  -- an errno other than 0 leaves everything
-  fresh-refused : (s : Served) (n : ℕ) → ((ms : List Mapping) → length ms ≡ count → freshErrno ms bs limit ≡ n) → (n ≡ 0 → ⊥) → s ≡ servedBy (refuse n) → FreshServed h count bs limit s h bs
-  fresh-refused s n f z es = record {
-    served = λ ms c. rw es (record {
-      result = rw (f ms c) (refused-result n);
-      head = rw (f ms c, ne-eqb n 0 z);
-      records = rw (f ms c, ne-eqb n 0 z) (refused-records n ms);
-      index = rw (f ms c, ne-eqb n 0 z);
-    });
-  }
-
-  pub fresh-short : (s : Served) (k : ℕ) → (count ≡ 128 → ⊥) → s ≡ servedBy (refuse k) → k ≡ 117 → FreshServed h count bs limit s h bs
-  fresh-short s k n es z = fresh-refused s k (λ ms c. errno-short ms bs limit (λ x. n (sym c ∙ x)) ∙ sym z) (λ x. omega (arith, x, z)) es
-
-  pub fresh-other : (s : Served) (k : ℕ) → count ≡ 128 → (length bs ≡ 128 → ⊥) → s ≡ servedBy (refuse k) → k ≡ 117 → FreshServed h count bs limit s h bs
-  fresh-other s k l n es z = fresh-refused s k (λ ms c. errno-other ms bs limit (c ∙ l) n ∙ sym z) (λ x. omega (arith, x, z)) es
-
-  pub fresh-over : (s : Served) (k : ℕ) → count ≡ 128 → length bs ≡ 128 → mostLimit < limit → s ≡ servedBy (refuse k) → k ≡ 22 → FreshServed h count bs limit s h bs
-  fresh-over s k l n m es z = fresh-refused s k (λ ms c. errno-over ms bs limit (c ∙ l) n m ∙ sym z) (λ x. omega (arith, x, z)) es
-
-  pub fresh-made : (h′ bs′ : List ℕ) → count ≡ 128 → length bs ≡ 128 → limit ≤ mostLimit → headIn h′ ≡ freshHead limit → bs′ ≡ replicate 128 0
-      → FreshServed h count bs limit (record { result = pos 0; records = Wipe }) h′ bs′
-  fresh-made h′ bs′ n k l eh ex = record {
-    served = λ ms c. record {
-      result = rw (errno-none ms bs limit (c ∙ n) k l) (sym result-zero);
-      head = rw (errno-none ms bs limit (c ∙ n) k l) eh;
-      records = rw (errno-none ms bs limit (c ∙ n) k l) (stored-wipe ms ∙ ap (λ (k : ℕ). replicate k zeroMapping) (c ∙ n));
-      index = rw (errno-none ms bs limit (c ∙ n) k l) ex;
-    };
   }
 
 none-served : (h : Head) (ms : List Mapping) (ix vs : List ℕ) (n k : ℕ) (s : Served) → s ≡ servedBy (refuse k) → k ≡ n

@@ -9,7 +9,7 @@ use Rattle.rules_table.specs.Words.{headIn}
 use Rattle.rules_lent.specs.Entries.{LentCall, Preview, HostCall}
 use Rattle.lent_records.specs.Loading.{Loaded}
 use Rattle.lent_records.specs.Records.{stored}
-use Rattle.lent_core.specs.declared.Served.{Served}
+use Rattle.lent_edit.specs.declared.Served.{Served}
 
 -- ---- what the entries promise, of the head as words
 

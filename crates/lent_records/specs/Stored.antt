@@ -4,15 +4,18 @@ use mathlib.Core.Path.{_≡_, refl, sym, ap, _∙_}
 use mathlib.Core.List.{List, [], _∷_, map}
 use native.Mathlib.Omega.{arith}
 use native.Mathlib.Nat.{le-refl}
-use lib.ListN.{length, set}
-use borrow.Author.Tests.{eq-eqb, ne-eqb}
+use lib.Dec.{ltb}
+use lib.ListN.{length, getD, set}
+use lib.Seq.{set-out, getD-set-same, getD-set-other}
+use borrow.Author.Tests.{eq-eqb, ne-eqb, ltb-true, ltb-false}
+use Rattle.lists.specs.Tests.{by-test}
 use Rattle.ranges.specs.declared.Range.{Range}
 use Rattle.rules_table.specs.declared.Mapping.{Mapping}
 use Rattle.rules_table.specs.Records.{zeroMapping, within, release}
-use Rattle.walks.specs.Stores.{stores, stores-none, stores-all}
+use Rattle.walks.specs.Stores.{stores, stores-none, stores-next, stores-all, stores-kept}
 use Rattle.lent_records.specs.declared.Records.{Records}
 use Rattle.lent_records.specs.declared.Records.the-variants.{Keep, Put, Clear, Wipe}
-use Rattle.lent_records.specs.Records.{nextRecord, storedFrom, stored, turnsOf}
+use Rattle.lent_records.specs.Records.{nextRecord, storedFrom, stored, turnsOf, firstOf}
 use Rattle.lent_records.specs.Lent.{stored-length}
 
 keep-from : (k : ℕ) (ms : List Mapping) → storedFrom Keep k ms ≡ ms
@@ -53,16 +56,53 @@ stored-clear s r ms = clear-from s r 0 ms
 
 pub turns-within : (c : Records) (n : ℕ) → turnsOf c n ≤ n
 turns-within Keep n = zero-le
-turns-within (Put i m) n = le-refl n
+turns-within (Put i m) n = by-test (ltb i n) (λ t. rw t (ltb-true i n t)) (λ t. rw t zero-le)
 turns-within (Clear s r) n = le-refl n
 turns-within Wipe n = le-refl n
 
-all-turns : (c : Records) (ms : List Mapping) → stores zeroMapping (stored c ms) ms (length ms) ≡ stored c ms
-all-turns c ms = ap (stores zeroMapping (stored c ms) ms) (sym (stored-length c ms)) ∙ stores-all zeroMapping (stored c ms) ms (sym (stored-length c ms))
+pub first-within : (c : Records) (n : ℕ) → firstOf c n ≤ n
+first-within Keep n = zero-le
+first-within (Put i m) n = by-test (ltb i n) (λ t. rw t (omega (arith, ltb-true i n t))) (λ t. rw t zero-le)
+first-within (Clear s r) n = zero-le
+first-within Wipe n = zero-le
 
--- the turns that are taken leave what is stored
-pub stored-turns : (c : Records) (ms : List Mapping) → stores zeroMapping (stored c ms) ms (turnsOf c (length ms)) ≡ stored c ms
-stored-turns Keep ms = stores-none zeroMapping (stored Keep ms) ms ∙ sym (stored-keep ms)
-stored-turns (Put i m) ms = all-turns (Put i m) ms
-stored-turns (Clear s r) ms = all-turns (Clear s r) ms
-stored-turns Wipe ms = all-turns Wipe ms
+module _ (ms : List Mapping) where
+  all-turns : (c : Records) → stores zeroMapping (stored c ms) ms (length ms) ≡ stored c ms
+  all-turns c = ap (stores zeroMapping (stored c ms) ms) (sym (stored-length c ms)) ∙ stores-all zeroMapping (stored c ms) ms (sym (stored-length c ms))
+
+  no-turns : (c : Records) → stores zeroMapping (stored c ms) ms 0 ≡ ms
+  no-turns c = stores-none zeroMapping (stored c ms) ms
+
+  -- the records before the one that is put stay
+  put-first : (i : ℕ) (m : Mapping) → stores zeroMapping (stored (Put i m) ms) ms i ≡ ms
+  put-first i m =
+      stores-kept zeroMapping (stored (Put i m) ms) ms i
+      (λ j h. ap (λ (l : List Mapping). getD l j zeroMapping) (stored-put i m ms) ∙ getD-set-other ms i j m zeroMapping (λ z. omega (arith, z, h)))
+
+  -- its own turn stores it
+  put-turn : (i : ℕ) (m : Mapping) → i < length ms → stores zeroMapping (stored (Put i m) ms) ms (suc i) ≡ stored (Put i m) ms
+  put-turn i m h =
+      let zs = stored (Put i m) ms in
+      let e : suc i ≡ i + 1 = omega arith in
+      ap (stores zeroMapping zs ms) e
+      ∙ sym (stores-next zeroMapping zs ms i)
+      ∙ ap (λ (l : List Mapping). set l i (getD zs i zeroMapping)) (put-first i m)
+      ∙ ap (set ms i) (ap (λ (l : List Mapping). getD l i zeroMapping) (stored-put i m ms) ∙ getD-set-same ms i m zeroMapping h)
+      ∙ sym (stored-put i m ms)
+
+  -- before the first turn nothing has to be stored
+  pub stored-first : (c : Records) (n : ℕ) → stores zeroMapping (stored c ms) ms (firstOf c n) ≡ ms
+  stored-first Keep n = no-turns Keep
+  stored-first (Put i m) n = by-test (ltb i n) (λ t. rw t (put-first i m)) (λ t. rw t (no-turns (Put i m)))
+  stored-first (Clear s r) n = no-turns (Clear s r)
+  stored-first Wipe n = no-turns Wipe
+
+  -- the turns that are taken leave what is stored
+  pub stored-turns : (c : Records) → stores zeroMapping (stored c ms) ms (turnsOf c (length ms)) ≡ stored c ms
+  stored-turns Keep = no-turns Keep ∙ sym (stored-keep ms)
+  stored-turns (Put i m) =
+      by-test (ltb i (length ms))
+      (λ t. rw t (put-turn i m (ltb-true i (length ms) t)))
+      (λ t. rw t (no-turns (Put i m) ∙ sym (stored-put i m ms ∙ set-out ms i m (ltb-false i (length ms) t))))
+  stored-turns (Clear s r) = all-turns (Clear s r)
+  stored-turns Wipe = all-turns Wipe

@@ -3,7 +3,7 @@
 ghost use mathlib.Core.Path.{_≡_};
 ghost use lib.ListN.{length};
 ghost use Rattle.lent_records.specs.Loading.{boundOf, Loaded};
-ghost use Rattle.lent_records.specs.Records.{changes, becomes, stored, turnsOf};
+ghost use Rattle.lent_records.specs.Records.{changes, becomes, stored, turnsOf, firstOf};
 use ranges::Range;
 use rules_table::Mapping;
 
@@ -61,15 +61,27 @@ fn bound(n: usize) -> usize
     0
 }
 
-// How many of n records are looked at: none where none changes.
+// Of n records those before this place are looked at: none where none changes; where one is put, none after it.
 fn turns(c: Records, n: usize) -> usize
     ensures { λ k. ⌜ k ≡ turnsOf c n ⌝ }
 {
     match c {
         Records::Keep => 0,
-        Records::Put(_, _) => n,
+        Records::Put(i, _) => if i < n { i + 1 } else { 0 },
         Records::Clear(_, _) => n,
         Records::Wipe => n,
+    }
+}
+
+// And those from this place on: where one is put, none before it.
+fn first_turn(c: Records, n: usize) -> usize
+    ensures { λ k. ⌜ k ≡ firstOf c n ⌝ }
+{
+    match c {
+        Records::Keep => 0,
+        Records::Put(i, _) => if i < n { i } else { 0 },
+        Records::Clear(_, _) => 0,
+        Records::Wipe => 0,
     }
 }
 
@@ -85,13 +97,13 @@ pub fn load(ms: &[Mapping], ws: &mut [[u64; 5]; 128])
     }
 }
 
-// Only the records that change are written.
+// Only the records that change are written; the one that is put is looked at alone.
 pub fn store(ms: &mut [Mapping], c: Records)
     ensures { λ _. ⌜ now (ms .exit) ≡ stored c (now (ms .entry)) ⌝ }
 {
     let r = new_record(c);
     let n = turns(c, ms.len());
-    let mut i: usize = 0;
+    let mut i = first_turn(c, n);
     while i < n {
         if is_changed(c, i, ms[i]) {
             ms[i] = r;

@@ -4,8 +4,8 @@ use mathlib.Core.Path.{_≡_, refl, sym, _∙_}
 use mathlib.Core.Bool.{Bool, true, false, not, _&&_, _||_}
 use native.Mathlib.Nat.{le-refl}
 use native.Mathlib.Omega.{arith}
-use lib.Dec.{leb}
-use borrow.Author.Tests.{leb-true, leb-false, le-leb, eqb-true, ltb-true, ltb-false, not-true, not-false}
+use lib.Dec.{leb, eqb}
+use borrow.Author.Tests.{leb-true, leb-false, le-leb, eqb-true, eqb-false, ltb-true, ltb-false, not-true, not-false}
 
 -- by cases on a test, with what it gave
 pub by-test : {C : Type 0} (b : Bool) → (b ≡ true → C) → (b ≡ false → C) → C
@@ -27,6 +27,9 @@ leb-iff a b c d f g =
     by-test (leb a b)
     (λ p. by-test (leb c d) (λ q. p ∙ sym q) (λ q. let h : c ≤ d = f (leb-true a b p) in let k : d < c = leb-false c d q in absurd (omega arith)))
     (λ p. by-test (leb c d) (λ q. let h : a ≤ b = g (leb-true c d q) in let k : b < a = leb-false a b p in absurd (omega arith)) (λ q. p ∙ sym q))
+
+pub not-zero : (a : ℕ) → not (eqb a 0) ≡ true → 0 < a
+not-zero a e = let n = eqb-false a 0 (not-true (eqb a 0) e) in omega (arith, n)
 
 pub and-left : (a b : Bool) → (a && b) ≡ true → a ≡ true
 and-left true b e = refl

@@ -35,7 +35,7 @@ pub fn past(w: Want, x: u64, q: Range) -> Spot
 }
 
 // The jumps from x to the next place y.
-pub fn jumps_to(x: u64, y: u64) -> usize
+fn jumps_to(x: u64, y: u64) -> usize
     ensures { λ n. ⌜ n ≡ jumpsTo x y ⌝ }
 {
     if x == y { 0 } else { 1 }

@@ -45,7 +45,13 @@ pub fn used(count: u32, room: usize) -> usize
 }
 
 // The first place, from `from` on, whose range shares an address with r.
-fn touched_from<'a>(starts: &'a [u64], lasts: &'a [u64], n: usize, from: usize, r: Range) -> Found
+pub fn touched_from<'a>(
+    starts: &'a [u64],
+    lasts: &'a [u64],
+    n: usize,
+    from: usize,
+    r: Range,
+) -> Found
     requires { ⌜ (n ≤ length (now starts)) × (n ≤ length (now lasts)) ⌝ }
     ensures { λ f. ⌜ f ≡ touchedFrom r from (listed n (now (starts .entry)) (now (lasts .entry))) ⌝ }
 {
@@ -64,7 +70,7 @@ fn touched_from<'a>(starts: &'a [u64], lasts: &'a [u64], n: usize, from: usize, 
 }
 
 // Whether each start is at most its last.
-fn all_valid<'a>(starts: &'a [u64], lasts: &'a [u64], n: usize) -> bool
+pub fn all_valid<'a>(starts: &'a [u64], lasts: &'a [u64], n: usize) -> bool
     requires { ⌜ (n ≤ length (now starts)) × (n ≤ length (now lasts)) ⌝ }
     ensures { λ b. ⌜ b ≡ valid (listed n (now (starts .entry)) (now (lasts .entry))) ⌝ }
 {
@@ -79,7 +85,7 @@ fn all_valid<'a>(starts: &'a [u64], lasts: &'a [u64], n: usize) -> bool
 }
 
 // Whether some two ranges share an address.
-fn some_overlap<'a>(starts: &'a [u64], lasts: &'a [u64], n: usize) -> bool
+pub fn some_overlap<'a>(starts: &'a [u64], lasts: &'a [u64], n: usize) -> bool
     requires { ⌜ (n ≤ length (now starts)) × (n ≤ length (now lasts)) ⌝ }
     ensures { λ b. ⌜ b ≡ overlap (listed n (now (starts .entry)) (now (lasts .entry))) ⌝ }
 {

@@ -1,6 +1,8 @@
 // Small tests of a kind, of a mapping and of lists of ranges. The records, and what a good table is, stand in rules_table; specs/ has its laws.
 ghost use mathlib.Core.Path.{_≡_};
-ghost use Rattle.rangelists.specs.Listed.{reserved, allowed};
+ghost use Prim.Native.Nat.{_≤_};
+ghost use lib.ListN.{length};
+ghost use Rattle.rangelists.specs.Listed.{listed, reserved, allowed};
 ghost use Rattle.rules_table.specs.Records.{isFree, isSpace, isDevice, isAttached, attachedTo, homeOf, touches, within, canWrite, canRead};
 ghost use Rattle.rules_table.specs.Good.{listsTouch};
 use rangelists::Allowed;
@@ -89,12 +91,18 @@ pub fn is_touched(m: Mapping, s: u32, r: Range) -> bool
     checks::both(m.space == s, ranges::shares(r, q))
 }
 
-// Whether it is a mapping of space s and lies wholly inside r.
+// Whether it is a mapping of space s and lies wholly inside r. Most are told by their space or their start, before the last address is reckoned.
 pub fn is_within(m: Mapping, s: u32, r: Range) -> bool
     ensures { λ b. ⌜ b ≡ within s r m ⌝ }
 {
+    if m.space != s {
+        return false;
+    }
+    if m.address < r.start {
+        return false;
+    }
     let q = ranges::span_of(m.address, m.length);
-    checks::both(m.space == s, ranges::is_inside(q, r))
+    ranges::is_inside(q, r)
 }
 
 pub fn can_write(m: Mapping) -> bool
@@ -109,21 +117,37 @@ pub fn can_read(m: Mapping) -> bool
     (m.rights >> 1) & 1 == 1
 }
 
-// Whether some reserved range shares an address with some range of an allow list.
-pub fn lists_touch(l: Reserved, allow: Allowed) -> bool
-    ensures { λ b. ⌜ b ≡ listsTouch (reserved l) (allowed allow) ⌝ }
+// Whether some of the first n ranges shares an address with some of the first m of another list.
+pub fn ranges_touch<'a>(
+    starts: &'a [u64],
+    lasts: &'a [u64],
+    n: usize,
+    froms: &'a [u64],
+    ends: &'a [u64],
+    m: usize,
+) -> bool
+    requires { ⌜ (n ≤ length (now starts)) × (n ≤ length (now lasts)) × (m ≤ length (now froms)) × (m ≤ length (now ends)) ⌝ }
+    ensures { λ b. ⌜ b ≡ listsTouch (listed n (now (starts .entry)) (now (lasts .entry))) (listed m (now (froms .entry)) (now (ends .entry))) ⌝ }
 {
-    let n = rangelists::used(l.count, 4);
     let mut i: usize = 0;
     while i < n {
         let r = Range {
-            start: l.starts[i],
-            last: l.lasts[i],
+            start: starts[i],
+            last: lasts[i],
         };
-        if rangelists::is_found(rangelists::allowed_touched(allow, r)) {
+        if rangelists::is_found(rangelists::touched_from(froms, ends, m, 0, r)) {
             return true;
         }
         i += 1;
     }
     false
+}
+
+// Whether some reserved range shares an address with some range of an allow list.
+pub fn lists_touch(l: Reserved, allow: Allowed) -> bool
+    ensures { λ b. ⌜ b ≡ listsTouch (reserved l) (allowed allow) ⌝ }
+{
+    let n = rangelists::used(l.count, 4);
+    let m = rangelists::used(allow.count, 8);
+    ranges_touch(&l.starts, &l.lasts, n, &allow.starts, &allow.lasts, m)
 }

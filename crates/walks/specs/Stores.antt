@@ -48,3 +48,12 @@ module _ {X : Type 0} (d : X) (a ys : List X) where
   -- a turn that has nothing to store
   pub stores-same : (i : ℕ) → getD a i d ≡ getD ys i d → stores i ≡ stores (i + 1)
   stores-same i e = sym (set-getD (stores i) i d) ∙ ap (set (stores i) i) (stores-rest i i (le-refl i) ∙ sym e) ∙ stores-next i
+
+  -- turns that all have nothing to store
+  pub stores-kept : (n : ℕ) → ((j : ℕ) → j < n → getD a j d ≡ getD ys j d) → stores n ≡ ys
+  unfolding stores
+  stores-kept zero f = refl
+  stores-kept (suc n) f =
+      ap (λ (l : List X). set l n (getD a n d)) (stores-kept n (λ j h. f j (omega (arith, h))))
+      ∙ ap (set ys n) (f n (omega arith))
+      ∙ set-getD ys n d

@@ -5,14 +5,8 @@ use borrow.Author.Needs.{needs}
 use Rattle.check_objects.proofs.judge.Statement.{statement}
 use Rattle.check_objects.proofs.judge.Tie as tie
 
-object-at-requires : tie.Need-object-at-requires
-object-at-requires c κs = search needs
-
-named-place-requires : tie.Need-named-place-requires
-named-place-requires c κs = search needs
-
-object-at-requires-2 : tie.Need-object-at-requires-2
-object-at-requires-2 c κs = search needs
+kind-at-requires : tie.Need-kind-at-requires
+kind-at-requires c κs = search needs
 
 object-good-requires : tie.Need-object-good-requires
 object-good-requires c κs = search needs
@@ -26,28 +20,29 @@ add-slot-of c = search needs
 slot-of-requires : tie.Need-slot-of-requires
 slot-of-requires c κs = search needs
 
+bitmap-at-requires : tie.Need-bitmap-at-requires
+bitmap-at-requires c κs = search needs
+
 ask-of-requires : tie.Need-ask-of-requires
 ask-of-requires c κs = search needs
 
 returns : tie.Need-returns
 returns c =
-    turned (objectsIn (c .before .before .before .before .before .before .before .args .h .now))
-    (c .before .before .before .before .before .before .before .args .i)
-    (objects-long (c .before .before .before .before .before .before .before .args .h .now)) _ _ _ _
-    (c .before .before .before .before .before .before .object-at .ensures) (c .before .before .before .before .before .named-place .ensures .0)
-    (c .before .before .before .before .object-at2 .ensures) (c .before .before .before .object-good .ensures) (c .before .before .is-free .ensures)
-    (c .before .slot-of .ensures .0) (c .before .slot-of .ensures .1) (c .ask-of .ensures)
+    turned (objectsIn (c .before .before .before .before .before .before .args .h .now)) (c .before .before .before .before .before .before .args .i)
+    (objects-long (c .before .before .before .before .before .before .args .h .now)) _ _ _
+    (c .before .before .before .before .before .kind-at .ensures) (c .before .bitmap-at .ensures)
+    (c .before .before .before .before .object-good .ensures) (c .before .before .before .is-free .ensures) (c .before .before .slot-of .ensures .0)
+    (c .before .before .slot-of .ensures .1) (c .ask-of .ensures)
 
 pub judge-spec : {M : Type 1} → statement M
 judge-spec =
     tie.close
     (tie.spec
-    object-at-requires
-    named-place-requires
-    object-at-requires-2
+    kind-at-requires
     object-good-requires
     is-free-requires
     add-slot-of
     slot-of-requires
+    bitmap-at-requires
     ask-of-requires
     returns)

@@ -2,7 +2,8 @@
 use Rattle.rules_table.specs.Words.{objectsIn}
 use Rattle.layout_mappings.specs.Words.{recordsOf}
 use Rattle.table.specs.Paged.{page-known, page-aligned}
-use Rattle.cmd_copy.proofs.Copying.{not-zero, numbers-known, by-numbers, by-source, by-place, by-records, by-copying}
+use Rattle.lists.specs.Tests.{not-zero}
+use Rattle.cmd_copy.proofs.Copying.{numbers-known, by-numbers, by-source, by-place, by-records, by-copying}
 use borrow.Author.Needs.{needs}
 use Rattle.cmd_copy.proofs.decide_copy.Statement.{statement}
 use Rattle.cmd_copy.proofs.decide_copy.Tie as tie

@@ -1,6 +1,10 @@
 -- The numbers or the mappings refused, or the mappings inside go.
+use Prim.Native.Nat.{_≤_}
+use mathlib.Core.Path.{sym, subst}
+use Rattle.ranges.specs.declared.Range.{Range}
+use Rattle.edits.specs.Numbers.{asked-some}
 use Rattle.index_search.specs.Removed.{records-short}
-use Rattle.cmd_unmap.proofs.Unmapping.{is-known, asked-some, by-numbers, by-removal, by-clearing}
+use Rattle.cmd_unmap.proofs.Unmapping.{is-known, by-numbers, by-removal, by-clearing}
 use borrow.Author.Needs.{needs}
 use Rattle.cmd_unmap.proofs.decide_unmap.Statement.{statement}
 use Rattle.cmd_unmap.proofs.decide_unmap.Tie as tie
@@ -20,7 +24,7 @@ range-asked-requires c κs = search needs
 removal-of-requires : tie.Need-removal-of-requires
 removal-of-requires c κs =
     let a = c .before .before .before .before in
-    (a .pre .0, a .pre .1 (is-known (a .args .known) (a .args .a) (a .args .n) _ (c .before .before .unmap-number-errno .ensures) (c .before .if1 .left)), asked-some (a .args .a) (a .args .n) _ (c .range-asked .ensures) (search needs), records-short (a .pre .2 .0) _ (a .pre .2 .1))
+    (a .pre .0, a .pre .1 (is-known (a .args .known) (a .args .a) (a .args .n) _ (c .before .before .unmap-number-errno .ensures) (c .before .if1 .left)), subst (λ (r : Range). r .start ≤ r .last) (sym (c .range-asked .ensures)) (asked-some (a .args .a) (a .args .n) (search needs)), records-short (a .pre .2 .0) _ (a .pre .2 .1))
 
 asks-all-requires : tie.Need-asks-all-requires
 asks-all-requires c κs = search needs

@@ -1,11 +1,13 @@
 -- By the checks, then by the mapping found.
 use native.Mathlib.Omega.{arith}
-use mathlib.Core.Path.{ap, _∙_}
+use Prim.Native.Nat.{_≤_}
+use mathlib.Core.Path.{sym, ap, subst, _∙_}
 use Rattle.ranges.specs.declared.Range.{Range}
+use Rattle.ranges.specs.Ranges.{span, span-some}
 use Rattle.rules_calls.specs.Reach.{around}
 use Rattle.layout_mappings.specs.Words.{recordsOf}
 use Rattle.index_search.specs.Sourced.{sourced}
-use Rattle.host_device.proofs.Reaching.{home-pos, asked-some, reach-refused, reach-nowhere, reach-found, around-fits}
+use Rattle.host_device.proofs.Reaching.{home-pos, reach-refused, reach-nowhere, reach-found, around-fits}
 use borrow.Author.Needs.{needs}
 use Rattle.host_device.proofs.reach_of.Statement.{statement}
 use Rattle.host_device.proofs.reach_of.Tie as tie
@@ -26,7 +28,8 @@ span-of-requires : tie.Need-span-of-requires
 span-of-requires c κs = search needs
 
 find-around-requires : tie.Need-find-around-requires
-find-around-requires c κs = let a = c .before .before .before .before .before in (a .pre .0, home-pos (a .args .o .kind) (a .args .a) (a .args .n) _ _ (c .before .before .before .reach-errno .ensures) (c .before .before .if1 .left) (c .before .home-of .ensures) (a .pre .1), asked-some (a .args .a) (a .args .n) _ (c .span-of .ensures) (search needs))
+unfolding span
+find-around-requires c κs = let a = c .before .before .before .before .before in (a .pre .0, home-pos (a .args .o .kind) (a .args .a) (a .args .n) _ _ (c .before .before .before .reach-errno .ensures) (c .before .before .if1 .left) (c .before .home-of .ensures) (a .pre .1), subst (λ (r : Range). r .start ≤ r .last) (sym (c .span-of .ensures)) (span-some (a .args .a) (a .args .n) (search needs)))
 
 enum-known-f : tie.Need-enum-known-f
 enum-known-f c = search needs

@@ -52,14 +52,14 @@ returns-2 c = let a = (c .before .before .before .before .before .before .before
 command-in-requires : tie.Need-command-in-requires
 command-in-requires c κs = search needs
 
-slice-aggregate-answer : tie.Need-slice-aggregate-answer
-slice-aggregate-answer c = search needs
+slice-aggregate-decide-command : tie.Need-slice-aggregate-decide-command
+slice-aggregate-decide-command c = search needs
 
-slice-aggregate-answer-2 : tie.Need-slice-aggregate-answer-2
-slice-aggregate-answer-2 c = search needs
+slice-aggregate-decide-command-2 : tie.Need-slice-aggregate-decide-command-2
+slice-aggregate-decide-command-2 c = search needs
 
-answer-requires : tie.Need-answer-requires
-answer-requires c κs = (opened-length _ _ _ (is-open _ _ _ _ _ (c .before .before .before .before .before .before .before .«open» .ensures) (c .before .before .before .before .before .before .opening-errno .ensures) (c .before .before .before .before .before .if2 .left) (c .before .before .before .before .command-in .ensures) refl), (c .before .before .before .before .before .before .before .before .before .before .before .before .before .check .ensures) .known (not-false _ (c .before .before .before .before .before .before .before .before .before .if1 .left)))
+decide-command-requires : tie.Need-decide-command-requires
+decide-command-requires c κs = (opened-length _ _ _ (is-open _ _ _ _ _ (c .before .before .before .before .before .before .before .«open» .ensures) (c .before .before .before .before .before .before .opening-errno .ensures) (c .before .before .before .before .before .if2 .left) (c .before .before .before .before .command-in .ensures) refl), (c .before .before .before .before .before .before .before .before .before .before .before .before .before .check .ensures) .known (not-false _ (c .before .before .before .before .before .before .before .before .before .if1 .left)))
 
 same-length-2 : tie.Need-same-length-2
 same-length-2 c = search needs
@@ -69,7 +69,7 @@ same-length-3 c = search needs
 
 returns-3 : tie.Need-returns-3
 unfolding tableOf
-returns-3 c = let a = (c .before .before .before .before .before .before .before .before .before .before .before .before .before .before .before .before .before .before .before .before .before .before .before .before .args) in let ms = recordsOf (a .ws .now) in let t = tableOf (headIn (a .h .now)) ms in let verdict = sym ((c .before .before .before .before .before .before .before .before .before .before .before .before .before .before .before .before .before .before .check .ensures) .verdict ∙ ap (λ (u : Table). good u && agrees (a .ix .now) ms) (table-is (a .h .now) ms)) in let b : Board = record { table = t; index = a .ix .now } in let good-both = verdict ∙ not-false _ (c .before .before .before .before .before .before .before .before .before .before .before .before .before .before .if1 .left) in on-board b (a .request) _ _ _ _ _ (and-right (good t) (agrees (a .ix .now) ms) good-both) (arm-of t _ _ (a .request) _ _ _ _ _ (table-is (a .h .now) ms) (and-left (good t) (agrees (a .ix .now) ms) good-both) (is-open _ _ _ _ _ (c .before .before .before .before .before .before .before .before .before .before .before .before .«open» .ensures) (c .before .before .before .before .before .before .before .before .before .before .before .opening-errno .ensures) (c .before .before .before .before .before .before .before .before .before .before .if2 .left) (c .before .before .before .before .before .before .before .before .before .command-in .ensures) refl) (c .before .before .before .before .answer .ensures))
+returns-3 c = let a = (c .before .before .before .before .before .before .before .before .before .before .before .before .before .before .before .before .before .before .before .before .before .before .before .before .args) in let ms = recordsOf (a .ws .now) in let t = tableOf (headIn (a .h .now)) ms in let verdict = sym ((c .before .before .before .before .before .before .before .before .before .before .before .before .before .before .before .before .before .before .check .ensures) .verdict ∙ ap (λ (u : Table). good u && agrees (a .ix .now) ms) (table-is (a .h .now) ms)) in let b : Board = record { table = t; index = a .ix .now } in let good-both = verdict ∙ not-false _ (c .before .before .before .before .before .before .before .before .before .before .before .before .before .before .if1 .left) in on-board b (a .request) _ _ _ _ _ (and-right (good t) (agrees (a .ix .now) ms) good-both) (arm-of t _ _ (a .request) _ _ _ _ _ (table-is (a .h .now) ms) (and-left (good t) (agrees (a .ix .now) ms) good-both) (is-open _ _ _ _ _ (c .before .before .before .before .before .before .before .before .before .before .before .before .«open» .ensures) (c .before .before .before .before .before .before .before .before .before .before .before .opening-errno .ensures) (c .before .before .before .before .before .before .before .before .before .before .if2 .left) (c .before .before .before .before .before .before .before .before .before .command-in .ensures) refl) (c .before .before .before .before .decide-command .ensures))
 
 pub decide-spec : {M : Type 1} → statement M
 decide-spec =
@@ -86,9 +86,9 @@ decide-spec =
     same-length
     returns-2
     command-in-requires
-    slice-aggregate-answer
-    slice-aggregate-answer-2
-    answer-requires
+    slice-aggregate-decide-command
+    slice-aggregate-decide-command-2
+    decide-command-requires
     same-length-2
     same-length-3
     returns-3)

@@ -1,15 +1,15 @@
--- `lent_records::store` meets its contract: a walk of its MIR, by hand, with a loop. The borrow is opened once, before the loop; after i turns the slice holds what `stored` has at its first i places, and what it had at the rest.
+-- `lent_records::store` meets its contract: a walk of its MIR, by hand, with a loop. The borrow is opened once, before the loop; at place i the slice holds what `stored` has at its first i places, and what it had at the rest.
 -- Assumes nothing.
-use Rattle.walks.specs.Names.{_≡_, refl, sym, ap, subst, _∙_, _⊎_, inl, inr, Bool, true, false, ℕ, _+_, _*_, _<_, _^_, zero-le, eq-or-lt-of-le, le-refl, arith, List, [], _∷_, lit<, length, getD, set, URA, fullShare, Ty, Body, named, mut, unsigned, w64, tyInt, tyBool, tyUnit, tyPtr, tyRef, place, field, deref, copy, int, assign, rvOpd, op2, add, mul, offset, seq, cond, skip, Val, vunit, vbool, vint, vptr, SProp, ent, emp, via, fst∗, snd∗, exE, id⊢, Lft, GName, Share, Fml, ftrue, fsep, fat, froom, fdies, flft, fobs, fauth, fbor, fobor, Memory, Routine, Heap, Calls, Loops, Env, Out, Wp, WpFn, Tables, afterSeq, afterBlock, afterTurn, atReturn, Atoms, sem, Fun, fact, givenOf, tables, tablesOf, Given, Item, ‵, raw, _⊛_, ⋆, some, later, runs, anyQ, atRet, Sq, _$_, _∵_, !, qed, by, move, keep, drop, use0, use1, split, join, pick, rewrite, fsplit, fjoin, feqI, suffices, frame, await, done, whole, sub, look-in, look, look-raw, store, store-raw, init, forget, stop, hop, fld, from, load, lit, unit-lit, of-opd, bin, and-then, no-more, assigns, assigns-last, land, first, blocks, stays, leaves-loop, returns, enter, alloc1, alloc0, params1, pass1, pass0, free1, free0, exec, Below, again, loops, fmOf, WpFn-mono, RattleType, owns, pureI, Is, shows, pointee, Boolean, bool-tells, bool-lawful, uint-tells, uint-makes, uint-lawful, usize, RefT, now, sliceTy, sliceVal, MutSlice, heres, Room, slice-vals, mut-slice-tells, at-slice, codedHoleys, Held, row, place-is, elem-out, elem-back, elem-put, opens-slice, closes-slice, plain, nothing, owned, facts, heard, only, Vals, onEntry, Meets, tripleOf, Contract, Triple, calls-at, ensured, lasts, entered, cited, says, Stays, stay-slice, stay-none, walkOf, goes-slice, goes-none, Walks, ends-at, walked, walk-meets, yes, lt-ltb, le-ltb}
+use Rattle.walks.specs.Names.{_≡_, refl, sym, ap, subst, _∙_, _⊎_, inl, inr, Bool, true, false, ℕ, _+_, _*_, _<_, _^_, eq-or-lt-of-le, le-refl, arith, List, [], _∷_, length, getD, set, URA, fullShare, Ty, Body, named, mut, unsigned, w64, tyInt, tyBool, tyUnit, tyPtr, tyRef, place, field, deref, copy, int, assign, rvOpd, op2, add, mul, offset, seq, cond, skip, Val, vunit, vbool, vint, vptr, SProp, ent, emp, via, fst∗, snd∗, exE, id⊢, Lft, GName, Share, Fml, ftrue, fsep, fat, froom, fdies, flft, fobs, fauth, fbor, fobor, Memory, Routine, Heap, Calls, Loops, Env, Out, Wp, WpFn, Tables, afterSeq, afterBlock, afterTurn, atReturn, Atoms, sem, Fun, fact, givenOf, tables, tablesOf, Given, Item, ‵, raw, _⊛_, ⋆, some, later, runs, anyQ, atRet, Sq, _$_, _∵_, !, qed, by, move, keep, drop, use0, use1, split, join, pick, rewrite, fsplit, fjoin, feqI, suffices, frame, await, done, whole, sub, look-in, look, look-raw, store, store-raw, init, forget, stop, hop, fld, from, load, lit, unit-lit, of-opd, bin, and-then, no-more, assigns, assigns-last, land, first, blocks, stays, leaves-loop, returns, enter, alloc1, alloc0, params1, pass1, pass0, free1, free0, exec, Below, again, loops, fmOf, WpFn-mono, RattleType, owns, pureI, Is, shows, pointee, Boolean, bool-tells, bool-lawful, uint-tells, uint-makes, uint-lawful, usize, RefT, now, sliceTy, sliceVal, MutSlice, heres, Room, slice-vals, mut-slice-tells, at-slice, codedHoleys, Held, row, place-is, elem-out, elem-back, elem-put, opens-slice, closes-slice, plain, nothing, owned, facts, heard, only, Vals, onEntry, Meets, tripleOf, Contract, Triple, calls-at, ensured, lasts, entered, cited, says, Stays, stay-slice, stay-none, walkOf, goes-slice, goes-none, Walks, ends-at, walked, walk-meets, yes, lt-ltb, le-ltb}
 use denote.Struct.Laws as LL
 use denote.Enum.Laws as EL
 use Rattle.rules_table.specs.declared.Mapping.{Mapping}
 use Rattle.rules_table.specs.Records.{zeroMapping}
-use Rattle.lent_records.specs.Records.{changes, becomes, stored, turnsOf}
+use Rattle.lent_records.specs.Records.{changes, becomes, stored, turnsOf, firstOf}
 use Rattle.lent_records.specs.Lent.{next-changed, next-kept, stored-length, stored-at}
-use Rattle.lent_records.specs.Stored.{turns-within, stored-turns}
+use Rattle.lent_records.specs.Stored.{turns-within, first-within, stored-first, stored-turns}
 use Rattle.lent_records.specs.declared.Records.{Records}
-use Rattle.walks.specs.Stores.{stores, stores-none, stores-next, stores-length, stores-rest, stores-same}
+use Rattle.walks.specs.Stores.{stores, stores-next, stores-length, stores-rest, stores-same}
 use Rattle.walks.specs.Test.{takes, passes}
 use Rattle.walks.specs.Turns.{Upto, Nearer, Nearer-wf}
 use Rattle.rules_table.proofs.Mapping as T
@@ -28,6 +28,10 @@ use Rattle.lent_records.proofs.turns as tu
 use Rattle.lent_records.proofs.turns.Symbol as tu-def
 use Rattle.lent_records.proofs.turns.Symbol.{name as #lent-records·turns}
 use Rattle.lent_records.proofs.turns.Met as tu-thm
+use Rattle.lent_records.proofs.first_turn as ft
+use Rattle.lent_records.proofs.first_turn.Symbol as ft-def
+use Rattle.lent_records.proofs.first_turn.Symbol.{name as #lent-records·first-turn}
+use Rattle.lent_records.proofs.first_turn.Met as ft-thm
 use Rattle.lent_records.proofs.store.Key.{name as #lent-records·store}
 use Rattle.lent_records.proofs.store as f
 use Rattle.lent_records.proofs.store.Statement as stated
@@ -78,6 +82,9 @@ module _ {M : Type 1} (𝓤 : URA M) (H : Heap 𝓤) (A : Atoms 𝓤) (at-mem : 
   abbrev Turns : Contract 𝓤
   Turns = tripleOf 𝓤 H A tu.signature (tu.spec 𝓤 H A at-mem run)
 
+  abbrev First : Contract 𝓤
+  First = tripleOf 𝓤 H A ft.signature (ft.spec 𝓤 H A at-mem run)
+
   abbrev Changed : Contract 𝓤
   Changed = tripleOf 𝓤 H A ic.signature (ic.spec 𝓤 H A at-mem run)
 
@@ -86,6 +93,9 @@ module _ {M : Type 1} (𝓤 : URA M) (H : Heap 𝓤) (A : Atoms 𝓤) (at-mem : 
 
   counted : (c : Records) (n k : ℕ) → ent 𝓤 (ensured 𝓤 H A tu.ended (tu.clauses 𝓤 H A at-mem run) tt (c, (n, tt)) tt k) (fact 𝓤 (k ≡ turnsOf c n))
   counted c n k = exE 𝓤 _ (λ ws. snd∗ 𝓤 (sem 𝓤 H A (lasts tu.ended tt (c, (n, tt)) ws)) (fact 𝓤 (k ≡ turnsOf c n)))
+
+  begun : (c : Records) (n k : ℕ) → ent 𝓤 (ensured 𝓤 H A ft.ended (ft.clauses 𝓤 H A at-mem run) tt (c, (n, tt)) tt k) (fact 𝓤 (k ≡ firstOf c n))
+  begun c n k = exE 𝓤 _ (λ ws. snd∗ 𝓤 (sem 𝓤 H A (lasts ft.ended tt (c, (n, tt)) ws)) (fact 𝓤 (k ≡ firstOf c n)))
 
   told : (c : Records) (k : ℕ) (m : Mapping) (t : Bool) → ent 𝓤 (ensured 𝓤 H A ic.ended (ic.clauses 𝓤 H A at-mem run) tt (c, (k, (m, tt))) tt t) (fact 𝓤 (t ≡ changes c k m))
   told c k m t = exE 𝓤 _ (λ ws. snd∗ 𝓤 (sem 𝓤 H A (lasts ic.ended tt (c, (k, (m, tt))) ws)) (fact 𝓤 (t ≡ changes c k m)))
@@ -103,11 +113,14 @@ module _ {M : Type 1} (𝓤 : URA M) (H : Heap 𝓤) (A : Atoms 𝓤) (W : Given
   abbrev zs : List Mapping
   zs = stored c ys
 
-  -- how many turns the loop takes
+  -- the place that the loop stops at, and the one that it begins at
   abbrev n : ℕ
   n = turnsOf c (length ys)
 
-  -- what the slice holds after i turns
+  abbrev s : ℕ
+  s = firstOf c n
+
+  -- what the slice holds when the loop comes to place i
   abbrev after : ℕ → List Mapping
   after = stores zeroMapping zs ys
 
@@ -140,6 +153,15 @@ module _ {M : Type 1} (𝓤 : URA M) (H : Heap 𝓤) (A : Atoms 𝓤) (W : Given
   goes-turns : ent 𝓤 (emp 𝓤) (Turns 𝓤 H A at-mem run .pre to-turns)
   goes-turns =
       qed W [] ∵ nothing ! $ owned ! usize (Is usize) (uint-makes 𝓤 H A W w64) (length ys) _ (refl, gn .0) $ fjoin ! $
+      owned ! S.the-row (Is S.the-row) (EL.makes S.the-type S′.the-plain 𝓤 H A) c _ is-c $ fjoin ! $ nothing ! $ join ! $ frame ! $ done !
+
+  abbrev to-first : First 𝓤 H A at-mem run .Ghost
+  to-first = ((tt, tt, tt, (c, (n, tt)), (val c ∷ [], (vint w64 n ∷ [], tt))), tt)
+
+  goes-first : ent 𝓤 (emp 𝓤) (First 𝓤 H A at-mem run .pre to-first)
+  goes-first =
+      let g : n < 2 ^ 64 = omega (arith, turns-within c (length ys), gn .0) in
+      qed W [] ∵ nothing ! $ owned ! usize (Is usize) (uint-makes 𝓤 H A W w64) n _ (refl, g) $ fjoin ! $
       owned ! S.the-row (Is S.the-row) (EL.makes S.the-type S′.the-plain 𝓤 H A) c _ is-c $ fjoin ! $ nothing ! $ join ! $ frame ! $ done !
 
   abbrev to-changed : ℕ → Mapping → Changed 𝓤 H A at-mem run .Ghost
@@ -245,7 +267,7 @@ module _ {M : Type 1} (𝓤 : URA M) (H : Heap 𝓤) (A : Atoms 𝓤) (W : Given
         assigns ! (bin ! (load ! (from ! (stop !)) (look ! 1 refl)) (load ! (from ! (stop !)) (look ! 2 refl)) tt) (from ! (stop !)) (init ! 3 refl (tt, tt)) $
         rewrite ! 3 (λ (t : Bool). ‵ (fat fullShare tyBool l₇ 0 (vbool t))) (le-ltb (i .0) n (omega (arith, e))) refl $
         leaves-loop ! (load ! (from ! (stop !)) (look ! 3 refl)) $ exec ! C Λ En body.t-6 (atRet En Post) $
-        rewrite ! 0 (λ (ws : List Mapping). ‵ (row R fullShare ws b o)) (ap after e ∙ stored-turns c ys) refl $
+        rewrite ! 0 (λ (ws : List Mapping). ‵ (row R fullShare ws b o)) (ap after e ∙ stored-turns ys c) refl $
         move ! (0 ∷ 14 ∷ 15 ∷ 16 ∷ []) $ closes-slice ! tt R ys zs same b o $
         -- [obs; the borrow; the token; i; n; _7; _9; _10; _11; _8; _12; _13; _1; _2; _3; _0; what c owns; _6; and that each local dies]
         assigns ! (of-opd ! (unit-lit !)) (from ! (stop !)) (init ! 15 refl (tt, tt)) $
@@ -260,22 +282,22 @@ module _ {M : Type 1} (𝓤 : URA M) (H : Heap 𝓤) (A : Atoms 𝓤) (W : Given
         by-case (inl e) = ends i e
         by-case (inr h) = more i h
 
-    -- once both callees have returned: the borrow is opened, and the loop runs
-    starts : Sq W (‵ (froom tyPtr l₁₃ 0) ∷ ‵ (fdies tyPtr l₁₃) ∷ ‵ (froom word l₁₂ 0) ∷ ‵ (fdies word l₁₂) ∷ ‵ (froom T′.mir l₁₁ 0) ∷ ‵ (fdies T′.mir l₁₁) ∷ ‵ (froom tyPtr l₁₀ 0) ∷ ‵ (fdies tyPtr l₁₀) ∷ ‵ (froom word l₉ 0) ∷ ‵ (fdies word l₉) ∷ ‵ (froom tyBool l₈ 0) ∷ ‵ (fdies tyBool l₈) ∷ ‵ (froom tyBool l₇ 0) ∷ ‵ (fdies tyBool l₇) ∷ ‵ (fat fullShare word l₆ 0 (vint w64 (length ys))) ∷ ‵ (fdies word l₆) ∷ ‵ (froom word l₅ 0) ∷ ‵ (fdies word l₅) ∷ ‵ (fat fullShare word l₄ 0 (vint w64 n)) ∷ ‵ (fdies word l₄)
+    -- once the callees have returned: the borrow is opened, and the loop runs
+    starts : Sq W (‵ (froom tyPtr l₁₃ 0) ∷ ‵ (fdies tyPtr l₁₃) ∷ ‵ (froom word l₁₂ 0) ∷ ‵ (fdies word l₁₂) ∷ ‵ (froom T′.mir l₁₁ 0) ∷ ‵ (fdies T′.mir l₁₁) ∷ ‵ (froom tyPtr l₁₀ 0) ∷ ‵ (fdies tyPtr l₁₀) ∷ ‵ (froom word l₉ 0) ∷ ‵ (fdies word l₉) ∷ ‵ (froom tyBool l₈ 0) ∷ ‵ (fdies tyBool l₈) ∷ ‵ (froom tyBool l₇ 0) ∷ ‵ (fdies tyBool l₇) ∷ ‵ (fat fullShare word l₆ 0 (vint w64 (length ys))) ∷ ‵ (fdies word l₆) ∷ ‵ (fat fullShare word l₅ 0 (vint w64 s)) ∷ ‵ (fdies word l₅) ∷ ‵ (fat fullShare word l₄ 0 (vint w64 n)) ∷ ‵ (fdies word l₄)
         ∷ ‵ (fat fullShare T′.mir l₃ 0 (LL.val T.the-type T′.the-laws (becomes c))) ∷ ‵ (fdies T′.mir l₃) ∷ ‵ (fat fullShare S′.mir l₂ 0 (val c)) ∷ ‵ (fdies S′.mir l₂) ∷ ‵ (fat fullShare slice l₁ 0 (sliceVal (b, o) (length ys))) ∷ ‵ (fdies slice l₁) ∷ ‵ (froom tyUnit l₀ 0) ∷ ‵ (fdies tyUnit l₀)
-        ∷ (‵ (flft κ q) ⊛ ‵ ftrue) ∷ ‵ (owns (MutSlice (named 0) κ R ∷ S.the-row ∷ []) x at) ∷ []) (runs C Λ En body.t-4 (atRet En Post))
+        ∷ (‵ (flft κ q) ⊛ ‵ ftrue) ∷ ‵ (owns (MutSlice (named 0) κ R ∷ S.the-row ∷ []) x at) ∷ []) (runs C Λ En body.t-5 (atRet En Post))
     starts =
-        assigns ! (of-opd ! (lit ! tt)) (from ! (stop !)) (init ! 16 refl (tt, record { fits = lit< tt })) $ forget ! 14 refl $
+        forget ! 14 refl $
         move ! (29 ∷ []) $ fsplit ! $ fsplit ! $ move ! (1 ∷ []) $ fsplit ! $ move ! (32 ∷ []) $ split ! $ move ! (2 ∷ 3 ∷ 0 ∷ []) $
         opens-slice ! tt R ys b o $
-        rewrite ! 0 (λ (ws : List Mapping). ‵ (row R fullShare ws b o)) (sym (stores-none zeroMapping zs ys)) refl $
+        rewrite ! 0 (λ (ws : List Mapping). ‵ (row R fullShare ws b o)) (sym (stored-first ys c n)) refl $
         -- [ms's row; the open borrow; obs; auth; true; ms's fact; what c owns; _13 at 7; d13; …; _0 at 33; d0]
         keep ! (0 ∷ 23 ∷ 25 ∷ 19 ∷ 15 ∷ 13 ∷ 11 ∷ 17 ∷ 9 ∷ 7 ∷ 31 ∷ 29 ∷ 27 ∷ 33 ∷ 1 ∷ 2 ∷ 3 ∷ 6 ∷ 21 ∷ 34 ∷ 32 ∷ 30 ∷ 28 ∷ 26 ∷ 24 ∷ 22 ∷ 20 ∷ 18 ∷ 16 ∷ 14 ∷ 12 ∷ 10 ∷ 8 ∷ []) $
-        first ! $ blocks ! $ loops ! 𝓣 (Nearer n) (Nearer-wf n) At turns (0, zero-le)
+        first ! $ blocks ! $ loops ! 𝓣 (Nearer n) (Nearer-wf n) At turns (s, first-within c n)
 
-  walk : (𝓣 : Tables 𝓤 H) → Triple 𝓤 (𝓣 .C #lent-records·new-record) (New 𝓤 H A at-mem run) → Triple 𝓤 (𝓣 .C #lent-records·turns) (Turns 𝓤 H A at-mem run) → Triple 𝓤 (𝓣 .C #lent-records·is-changed) (Changed 𝓤 H A at-mem run)
+  walk : (𝓣 : Tables 𝓤 H) → Triple 𝓤 (𝓣 .C #lent-records·new-record) (New 𝓤 H A at-mem run) → Triple 𝓤 (𝓣 .C #lent-records·turns) (Turns 𝓤 H A at-mem run) → Triple 𝓤 (𝓣 .C #lent-records·first-turn) (First 𝓤 H A at-mem run) → Triple 𝓤 (𝓣 .C #lent-records·is-changed) (Changed 𝓤 H A at-mem run)
       → ent 𝓤 (onEntry 𝓤 H A f.signature (κ, tt) (q, tt) x at) (WpFn 𝓤 H (𝓣 .C) (𝓣 .Λ) code.function (sliceVal (b, o) (length ys) ∷ val c ∷ []) Post)
-  walk 𝓣 known-new known-turns known-changed =
+  walk 𝓣 known-new known-turns known-first known-changed =
       qed W ((‵ (flft κ q) ⊛ ‵ ftrue) ∷ ‵ (owns (MutSlice (named 0) κ R ∷ S.the-row ∷ []) x at) ∷ []) ∵ enter ! (𝓣 .C) (𝓣 .Λ) code.function (sliceVal (b, o) (length ys) ∷ val c ∷ []) _ $
       alloc1 ! (λ l₀. alloc1 ! (λ l₁. alloc1 ! (λ l₂. alloc1 ! (λ l₃. alloc1 ! (λ l₄. alloc1 ! (λ l₅. alloc1 ! (λ l₆. alloc1 ! (λ l₇. alloc1 ! (λ l₈. alloc1 ! (λ l₉. alloc1 ! (λ l₁₀. alloc1 ! (λ l₁₁. alloc1 ! (λ l₁₂. alloc1 ! (λ l₁₃. alloc0 ! $ params1 ! $
       pass1 ! (init ! 24 refl (tt, (tt, (record { fits = gn .0 }, tt)))) $ pass1 ! (init ! 22 refl (EL.lawful S.the-type S′.the-laws 𝓤 H A W tt .typed c _ is-c .0)) $ pass0 ! $
@@ -292,12 +314,17 @@ module _ {M : Type 1} (𝓤 : URA M) (H : Heap 𝓤) (A : Atoms 𝓤) (W : Given
       use1 W (later (some (λ (k : ℕ). (‵ ftrue ⊛ ‵ (usize .own k (w₂ ∷ []))) ⊛ raw (ensured 𝓤 H A tu.ended (tu.clauses 𝓤 H A at-mem run) tt (c, (length ys, tt)) tt k)))) (id⊢ 𝓤 _) $ await ! tt $ pick ! (λ k.
       split ! $ move ! (1 ∷ []) $ use1 W (raw (fact 𝓤 (k ≡ n))) (counted 𝓤 H A at-mem run c (length ys) k) $ heard ! (k ≡ n) (λ e₂. split ! $ drop ! $ facts ! usize (Is usize) (shows 𝓤 H A usize) k (w₂ ∷ []) (λ is₂.
       land ! (from ! (stop !)) (init ! 18 refl (uint-lawful 𝓤 H A W w64 .typed k _ is₂ .0)) $ rewrite ! 18 (λ (v : Val). ‵ (fat fullShare word l₄ 0 v)) (ap only (uint-tells w64 k (w₂ ∷ []) is₂) ∙ ap (vint w64) e₂) refl $
-      starts 𝓣 known-changed is-m l₀ l₁ l₂ l₃ l₄ l₅ l₆ l₇ l₈ l₉ l₁₀ l₁₁ l₁₂ l₁₃))))))))))))))))))))))
+      use0 W (raw (First 𝓤 H A at-mem run .pre to-first)) goes-first $
+      calls-at ! (fmOf 𝓤 H (W .laws) 𝓣) (First 𝓤 H A at-mem run) known-first to-first (and-then ! (load ! (from ! (stop !)) (look ! 23 refl)) (and-then ! (load ! (from ! (stop !)) (look ! 19 refl)) (no-more !))) (λ w₃.
+      use1 W (later (some (λ (k : ℕ). (‵ ftrue ⊛ ‵ (usize .own k (w₃ ∷ []))) ⊛ raw (ensured 𝓤 H A ft.ended (ft.clauses 𝓤 H A at-mem run) tt (c, (n, tt)) tt k)))) (id⊢ 𝓤 _) $ await ! tt $ pick ! (λ j.
+      split ! $ move ! (1 ∷ []) $ use1 W (raw (fact 𝓤 (j ≡ s))) (begun 𝓤 H A at-mem run c n j) $ heard ! (j ≡ s) (λ e₃. split ! $ drop ! $ facts ! usize (Is usize) (shows 𝓤 H A usize) j (w₃ ∷ []) (λ is₃.
+      land ! (from ! (stop !)) (init ! 16 refl (uint-lawful 𝓤 H A W w64 .typed j _ is₃ .0)) $ rewrite ! 16 (λ (v : Val). ‵ (fat fullShare word l₅ 0 v)) (ap only (uint-tells w64 j (w₃ ∷ []) is₃) ∙ ap (vint w64) e₃) refl $
+      starts 𝓣 known-changed is-m l₀ l₁ l₂ l₃ l₄ l₅ l₆ l₇ l₈ l₉ l₁₀ l₁₁ l₁₂ l₁₃))))))))))))))))))))))))))
 
-module _ {M : Type 1} (𝓤 : URA M) (H : Heap 𝓤) (A : Atoms 𝓤) (W : Given 𝓤 H A) (at-mem : Memory → SProp 𝓤) (run : Routine → Fun 𝓤) (𝓣 : Tables 𝓤 H) (known-new : Triple 𝓤 (𝓣 .C #lent-records·new-record) (New 𝓤 H A at-mem run)) (known-turns : Triple 𝓤 (𝓣 .C #lent-records·turns) (Turns 𝓤 H A at-mem run)) (known-changed : Triple 𝓤 (𝓣 .C #lent-records·is-changed) (Changed 𝓤 H A at-mem run)) where
+module _ {M : Type 1} (𝓤 : URA M) (H : Heap 𝓤) (A : Atoms 𝓤) (W : Given 𝓤 H A) (at-mem : Memory → SProp 𝓤) (run : Routine → Fun 𝓤) (𝓣 : Tables 𝓤 H) (known-new : Triple 𝓤 (𝓣 .C #lent-records·new-record) (New 𝓤 H A at-mem run)) (known-turns : Triple 𝓤 (𝓣 .C #lent-records·turns) (Turns 𝓤 H A at-mem run)) (known-first : Triple 𝓤 (𝓣 .C #lent-records·first-turn) (First 𝓤 H A at-mem run)) (known-changed : Triple 𝓤 (𝓣 .C #lent-records·is-changed) (Changed 𝓤 H A at-mem run)) where
   store-walks : Walks 𝓤 H A f.ended stayed (WpFn 𝓤 H (𝓣 .C) (𝓣 .Λ) code.function) (f.clauses 𝓤 H A at-mem run)
   store-walks = walked 𝓤 H A f.ended stayed (f.clauses 𝓤 H A at-mem run) (WpFn 𝓤 H (𝓣 .C) (𝓣 .Λ) code.function) (λ κs. (slice-vals, (EL.vals S.the-type S′.the-laws, tt))) (λ κs. (mut-slice-tells (named 0) (κs .0) R, (EL.tells S.the-type S′.the-laws, tt)))
-      (λ κs qs bounds a g are. via 𝓤 _ (fst∗ 𝓤 _ (emp 𝓤)) (walk 𝓤 H A W at-mem run (κs .0) (qs .0) (a .0 .ptr .0) (a .0 .ptr .1) (a .0 .name) (a .0 .now) (a .1 .0) (are .0 .0 .1) (are .1 .0) 𝓣 known-new known-turns known-changed))
+      (λ κs qs bounds a g are. via 𝓤 _ (fst∗ 𝓤 _ (emp 𝓤)) (walk 𝓤 H A W at-mem run (κs .0) (qs .0) (a .0 .ptr .0) (a .0 .ptr .1) (a .0 .name) (a .0 .now) (a .1 .0) (are .0 .0 .1) (are .1 .0) 𝓣 known-new known-turns known-first known-changed))
 
   store-meets : Meets 𝓤 H A f.signature (WpFn 𝓤 H (𝓣 .C) (𝓣 .Λ) code.function) (f.spec 𝓤 H A at-mem run)
   store-meets = walk-meets 𝓤 H A f.ended stayed W (goes-slice 𝓤 H A W 1 0 tt (plain (λ _. R)), (goes-none 𝓤 H A W 1 (λ _. S.the-row) yes (λ κs x f. refl), tt)) (f.clauses 𝓤 H A at-mem run)
@@ -311,4 +338,5 @@ store-spec 𝓤 H 𝓜 𝓖 𝓡 =
     (store-meets 𝓤 H (𝓖 .A) (givenOf 𝓤 H 𝓜 𝓖) (𝓜 .mem) (𝓡 .run) (tablesOf 𝓤 H 𝓜 (tables 𝓤 H 𝓜 𝓡 code.env))
     (cited 𝓤 H (New 𝓤 H (𝓖 .A) (𝓜 .mem) (𝓡 .run)) 𝓜 𝓡 code.env #lent-records·new-record nr-def.routine code.calls-lent-records·new-record (nr-thm.met 𝓤 H 𝓜 𝓖 𝓡))
     (cited 𝓤 H (Turns 𝓤 H (𝓖 .A) (𝓜 .mem) (𝓡 .run)) 𝓜 𝓡 code.env #lent-records·turns tu-def.routine code.calls-lent-records·turns (tu-thm.met 𝓤 H 𝓜 𝓖 𝓡))
+    (cited 𝓤 H (First 𝓤 H (𝓖 .A) (𝓜 .mem) (𝓡 .run)) 𝓜 𝓡 code.env #lent-records·first-turn ft-def.routine code.calls-lent-records·first-turn (ft-thm.met 𝓤 H 𝓜 𝓖 𝓡))
     (cited 𝓤 H (Changed 𝓤 H (𝓖 .A) (𝓜 .mem) (𝓡 .run)) 𝓜 𝓡 code.env #lent-records·is-changed ic-def.routine code.calls-lent-records·is-changed (ic-thm.met 𝓤 H 𝓜 𝓖 𝓡)))

@@ -1,0 +1,20 @@
+-- By the slot.
+use borrow.Author.Tests.{le-leb, lt-leb}
+use borrow.Author.Needs.{needs}
+use Rattle.lent_edit.proofs.dropped.Statement.{statement}
+use Rattle.lent_edit.proofs.dropped.Tie as tie
+
+returns : tie.Need-returns
+returns c = rw (le-leb _ _ (c .if1 .taken))
+
+add-t4 : tie.Need-add-t4
+add-t4 c = search needs
+
+cast-t5 : tie.Need-cast-t5
+cast-t5 c = search needs
+
+returns-2 : tie.Need-returns-2
+returns-2 c = rw (lt-leb _ _ (c .if1 .left))
+
+pub dropped-spec : {M : Type 1} → statement M
+dropped-spec = tie.close (tie.spec returns add-t4 cast-t5 returns-2)

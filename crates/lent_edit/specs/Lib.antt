@@ -1,0 +1,2 @@
+-- What an edit writes.
+pub mod Edits

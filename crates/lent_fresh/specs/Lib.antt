@@ -1,0 +1,2 @@
+-- What fresh leaves.
+pub mod Endings
