@@ -6,3 +6,4 @@ pub mod Running
 pub mod Shifting
 pub mod Numbering
 pub mod Changing
+pub mod Spanning

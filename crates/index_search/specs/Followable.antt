@@ -16,10 +16,10 @@ withoutRun p q xs = take p xs ++ drop q xs
 unfoldable pub zeroed : ℕ → ℕ → List ℕ → List ℕ
 zeroed p q xs = take p xs ++ (replicate (q - p) 0 ++ drop q xs)
 
--- where mappings come or go it is the index of the records; a mapping that comes finds room, and its slot is one of the 128
+-- where mappings come or go it is the index of the records; a mapping that comes finds room, and its slot is one of the 128; mappings go from a space
 abbrev pub Followable : Change → List ℕ → List Mapping → Type 0
 Followable Nothing ix ms = Unit {0}
 Followable (Put i) ix ms = Unit {0}
 Followable (Drop i) ix ms = Indexed (length (numbersIn ix)) ix ms
 Followable (Map i m) ix ms = Indexed (length (numbersIn ix)) ix ms × (length (numbersIn ix) < 128) × (i < 128)
-Followable (Clear s r) ix ms = Indexed (length (numbersIn ix)) ix ms
+Followable (Clear s r) ix ms = Indexed (length (numbersIn ix)) ix ms × (0 < s)

@@ -3,3 +3,4 @@ pub mod Indexed
 pub mod Sourced
 pub mod Removed
 pub mod Followable
+pub mod Spans

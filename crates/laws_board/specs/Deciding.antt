@@ -153,7 +153,7 @@ row-shown (Listed c size) t bytes area g = command-shown c t bytes area g
 
 -- ---- host calls: they change objects alone
 
-abbrev ObjectsAlone : Change → Type 0
+abbrev pub ObjectsAlone : Change → Type 0
 ObjectsAlone Changes.Nothing = Unit {0}
 ObjectsAlone (Changes.Put i) = Unit {0}
 ObjectsAlone (Changes.Drop i) = ⊥
@@ -226,9 +226,13 @@ pub board-shown : (b : Board) (request : ℕ) (bytes area : List ℕ) → Shown 
 unfolding boardEdit guarded
 board-shown b request bytes area = settle-shown (b .table .mappings) (gate (agrees (b .index) (b .table .mappings)) 0) (callEdit (b .table) request bytes area) (λ e. call-shown (b .table) request bytes area)
 
--- a host call leaves the index
+-- a host call changes objects alone
+pub board-host-alone : (b : Board) (o : Order) → ObjectsAlone (boardHost b o .change)
+unfolding boardHost guarded
+board-host-alone b o = settle-alone (gate (agrees (b .index) (b .table .mappings)) 0) (hostEdit (b .table) o) (host-alone (b .table) o)
+
+-- so it leaves the index
 pub board-host-index : (b : Board) (o : Order) (ms : List Mapping) (ix : List ℕ) → indexAfter (boardHost b o .change) ms ix ≡ ix
 unfolding boardHost guarded
 board-host-index b o ms ix =
-    alone-index ms ix (settle (gate (agrees (b .index) (b .table .mappings)) 0) (hostEdit (b .table) o) .change)
-    (settle-alone (gate (agrees (b .index) (b .table .mappings)) 0) (hostEdit (b .table) o) (host-alone (b .table) o))
+    alone-index ms ix (settle (gate (agrees (b .index) (b .table .mappings)) 0) (hostEdit (b .table) o) .change) (board-host-alone b o)

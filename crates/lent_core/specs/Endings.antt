@@ -14,6 +14,8 @@ use Rattle.rules_table.specs.declared.Head.{Head}
 use Rattle.rules_table.specs.Layout.{tableOf}
 use Rattle.rules_table.specs.Words.{headIn}
 use Rattle.table.specs.Sound.{good-sound}
+use Rattle.rules_calls.specs.declared.Change.{Change}
+use Rattle.rules_calls.specs.declared.Change.the-variants as Changes
 use Rattle.rules_calls.specs.declared.Edit.{Edit}
 use Rattle.rules_calls.specs.declared.Order.{Order}
 use Rattle.rules_calls.specs.Edits.{refuse}
@@ -22,13 +24,15 @@ use Rattle.rules_lent.specs.Lent.{headAfter, recordsAfter, boardOf}
 use Rattle.rules_lent.specs.Entries.{LentCall, Preview, LentHost, LentNone, orderIn}
 use Rattle.laws_board.specs.Answers.{good-table}
 use Rattle.laws_board.specs.Refused.{bad-board, board-bad, board-host-bad}
-use Rattle.laws_board.specs.Deciding.{board-host-index}
+use Rattle.laws_board.specs.Deciding.{ObjectsAlone, board-host-alone, board-host-index}
 use Rattle.layout_mappings.specs.Words.{recordsOf}
+use Rattle.index_search.specs.declared.Slots.{Slots}
+use Rattle.index_search.specs.Spans.{Spanning}
 use Rattle.lent_records.specs.Loading.{Loaded}
 use Rattle.lent_records.specs.Records.{stored}
 use Rattle.iommufd.specs.Deciding.{Decided}
 use Rattle.lent_edit.specs.declared.Served.{Served}
-use Rattle.lent_edit.specs.Edits.{servedBy, records-written, refused-head, refused-records, refused-result}
+use Rattle.lent_edit.specs.Edits.{nowhere, servedBy, records-written, refused-head, refused-records, refused-result}
 use Rattle.lent_fresh.specs.Endings.{FreshServed}
 use Rattle.lent_order.specs.Orders.{toldIn, told-none, no-order, fresh-order}
 use Rattle.lent_core.specs.Serving.{CallServed, PreviewServed, HostServed}
@@ -52,13 +56,13 @@ module _ (h : Head) (ms : List Mapping) (ix : List ℕ) (n : length ms ≡ 128 �
 -- ---- commands
 
 module _ (h : Head) (ms : List Mapping) (ix : List ℕ) (request : ℕ) (cs rs cs′ rs′ : List ℕ) (e : Edit) (d : Decided (boardOf h ms ix) request cs rs e cs′ rs′) where
-  lent-done : (s : Served) (h′ : Head) (ix′ : List ℕ) → s ≡ servedBy e → h′ ≡ headAfter e h → ix′ ≡ indexAfter (e .change) ms ix
+  lent-done : (s : Served) (v : Slots) (h′ : Head) (ix′ : List ℕ) → s ≡ servedBy e v → Spanning (e .change) ms v → h′ ≡ headAfter e h → ix′ ≡ indexAfter (e .change) ms ix
       → LentCall h ms ix request cs rs (s .result) h′ (stored (s .records) ms) ix′ cs′ rs′
   unfolding servedBy
-  lent-done s h′ ix′ es eh ex = record {
+  lent-done s v h′ ix′ es sp eh ex = record {
     result = ap (λ (x : Served). x .result) es ∙ ap (λ (x : Edit). result (x .errno)) (d .edit);
     head = eh ∙ ap (λ (x : Edit). headAfter x h) (d .edit);
-    records = ap (λ (x : Served). stored (x .records) ms) es ∙ records-written ms e ∙ ap (λ (x : Edit). recordsAfter x ms) (d .edit);
+    records = ap (λ (x : Served). stored (x .records) ms) es ∙ records-written ms e v sp ∙ ap (λ (x : Edit). recordsAfter x ms) (d .edit);
     index = ex ∙ ap (λ (x : Edit). indexAfter (x .change) ms ix) (d .edit);
     reply = d .reply;
     ranges = d .ranges;
@@ -68,20 +72,21 @@ module _ (h : Head) (ms : List Mapping) (ix : List ℕ) (request : ℕ) (cs rs c
   told-done r er = record { result = er ∙ ap (λ (x : Edit). result (x .errno)) (d .edit); head = refl; records = refl; index = refl; reply = d .reply; ranges = d .ranges }
 
 module _ (h : List ℕ) (count : ℕ) (ws : List (List ℕ)) (bs : List ℕ) (request : ℕ) (cs rs : List ℕ) where
-  pub call-short : (s : Served) (k : ℕ) → (count ≡ 128 → ⊥) → s ≡ servedBy (refuse k) → k ≡ 117 → CallServed h count ws bs request cs rs s h bs cs rs
+  pub call-short : (s : Served) (k : ℕ) → (count ≡ 128 → ⊥) → s ≡ servedBy (refuse k) nowhere → k ≡ 117 → CallServed h count ws bs request cs rs s h bs cs rs
   call-short s k n es z = record {
     served = λ ms c l.
-        lent-done (headIn h) ms bs request cs rs cs rs (refuse 117) (short-decided (headIn h) ms bs (λ x. n (sym c ∙ x)) request cs rs) s (headIn h) bs
-        (es ∙ ap (λ (m : ℕ). servedBy (refuse m)) z) (refused-head 117 (headIn h)) refl;
+        lent-done (headIn h) ms bs request cs rs cs rs (refuse 117) (short-decided (headIn h) ms bs (λ x. n (sym c ∙ x)) request cs rs) s nowhere (headIn h) bs
+        (es ∙ ap (λ (m : ℕ). servedBy (refuse m) nowhere) z) tt (refused-head 117 (headIn h)) refl;
   }
 
-  pub call-done : (s : Served) (h′ bs′ cs′ rs′ : List ℕ) (e : Edit) → count ≡ 128 → Decided (boardOf (headIn h) (recordsOf ws) bs) request cs rs e cs′ rs′
-      → s ≡ servedBy e → headIn h′ ≡ headAfter e (headIn h) → bs′ ≡ indexAfter (e .change) (recordsOf ws) bs
+  pub call-done : (s : Served) (v : Slots) (h′ bs′ cs′ rs′ : List ℕ) (e : Edit) → count ≡ 128 → Decided (boardOf (headIn h) (recordsOf ws) bs) request cs rs e cs′ rs′
+      → s ≡ servedBy e v → Spanning (e .change) (recordsOf ws) v → headIn h′ ≡ headAfter e (headIn h) → bs′ ≡ indexAfter (e .change) (recordsOf ws) bs
       → CallServed h count ws bs request cs rs s h′ bs′ cs′ rs′
-  call-done s h′ bs′ cs′ rs′ e n d es eh ex = record {
+  call-done s v h′ bs′ cs′ rs′ e n d es sp eh ex = record {
     served = λ ms c l.
         lent-done (headIn h) ms bs request cs rs cs′ rs′ e
-        (subst (λ (zs : List Mapping). Decided (boardOf (headIn h) zs bs) request cs rs e cs′ rs′) (l .same (c ∙ n)) d) s (headIn h′) bs′ es eh
+        (subst (λ (zs : List Mapping). Decided (boardOf (headIn h) zs bs) request cs rs e cs′ rs′) (l .same (c ∙ n)) d) s v (headIn h′) bs′ es
+        (subst (λ (zs : List Mapping). Spanning (e .change) zs v) (l .same (c ∙ n)) sp) eh
         (ex ∙ ap (λ (zs : List Mapping). indexAfter (e .change) zs bs) (l .same (c ∙ n)));
   }
 
@@ -108,25 +113,33 @@ abbrev orElse : Order → Option Order → Order
 orElse p none = p
 orElse p (some o) = o
 
+-- a change of objects alone releases no mapping
+alone-spans : (ms : List Mapping) (c : Change) (v : Slots) → ObjectsAlone c → Spanning c ms v
+alone-spans ms Changes.Nothing v a = tt
+alone-spans ms (Changes.Put i) v a = tt
+alone-spans ms (Changes.Drop i) v a = absurd a
+alone-spans ms (Changes.Map i m) v a = tt
+alone-spans ms (Changes.Clear s r) v a = absurd a
+
 -- an edit of the order, committed and told; the index stays
 module _ (h : Head) (ms : List Mapping) (ix : List ℕ) (o : Order) (vs : List ℕ) (e : Edit) (d : e ≡ boardHost (boardOf h ms ix) o) where
-  order-done : (s : Served) (h′ : Head) (vs′ : List ℕ) → s ≡ servedBy e → h′ ≡ headAfter e h → vs′ ≡ toldIn (e .errno) (e .value) vs
+  order-done : (s : Served) (h′ : Head) (vs′ : List ℕ) → s ≡ servedBy e nowhere → h′ ≡ headAfter e h → vs′ ≡ toldIn (e .errno) (e .value) vs
       → LentHost h ms ix o vs (s .result) h′ (stored (s .records) ms) ix vs′
   unfolding servedBy toldIn
   order-done s h′ vs′ es eh ev = record {
     result = ap (λ (x : Served). x .result) es ∙ ap (λ (x : Edit). result (x .errno)) d;
     head = eh ∙ ap (λ (x : Edit). headAfter x h) d;
-    records = ap (λ (x : Served). stored (x .records) ms) es ∙ records-written ms e ∙ ap (λ (x : Edit). recordsAfter x ms) d;
+    records = ap (λ (x : Served). stored (x .records) ms) es ∙ records-written ms e nowhere (alone-spans ms (e .change) nowhere (subst (λ (x : Edit). ObjectsAlone (x .change)) (sym d) (board-host-alone (boardOf h ms ix) o))) ∙ ap (λ (x : Edit). recordsAfter x ms) d;
     index = sym (board-host-index (boardOf h ms ix) o ms ix);
     told = ev ∙ ap (λ (x : Edit). toldIn (x .errno) (x .value) vs) d;
   }
 
-none-served : (h : Head) (ms : List Mapping) (ix vs : List ℕ) (n k : ℕ) (s : Served) → s ≡ servedBy (refuse k) → k ≡ n
+none-served : (h : Head) (ms : List Mapping) (ix vs : List ℕ) (n k : ℕ) (s : Served) → s ≡ servedBy (refuse k) nowhere → k ≡ n
     → LentNone h ms ix vs n (s .result) h (stored (s .records) ms) ix vs
 none-served h ms ix vs n k s es z = rw (es, z) (record { result = refused-result n; head = refl; records = refused-records n ms; index = refl; told = refl })
 
 module _ (h : List ℕ) (count : ℕ) (ws : List (List ℕ)) (bs : List ℕ) (kind : ℕ) (vs : List ℕ) where
-  pub host-short : (s : Served) (k : ℕ) → length vs < 10 → s ≡ servedBy (refuse k) → k ≡ 14 → HostServed h count ws bs kind vs s h bs vs
+  pub host-short : (s : Served) (k : ℕ) → length vs < 10 → s ≡ servedBy (refuse k) nowhere → k ≡ 14 → HostServed h count ws bs kind vs s h bs vs
   host-short s k l es z = record {
     served = λ ms c x. record {
       short = λ _. none-served (headIn h) ms bs vs 14 k s es z;
@@ -146,7 +159,7 @@ module _ (h : List ℕ) (count : ℕ) (ws : List (List ℕ)) (bs : List ℕ) (ki
     };
   }
 
-  pub host-unknown : (s : Served) (n : ℕ) → 10 ≤ length vs → 6 < kind → s ≡ servedBy (refuse n) → n ≡ 25 → HostServed h count ws bs kind vs s h bs vs
+  pub host-unknown : (s : Served) (n : ℕ) → 10 ≤ length vs → 6 < kind → s ≡ servedBy (refuse n) nowhere → n ≡ 25 → HostServed h count ws bs kind vs s h bs vs
   host-unknown s n l k es y = record {
     served = λ ms c x. record {
       short = λ z. absurd (omega (arith, z, l));
@@ -171,13 +184,13 @@ module _ (h : List ℕ) (count : ℕ) (ws : List (List ℕ)) (bs : List ℕ) (ki
       };
     }
 
-    pub host-bad : (s : Served) (m : ℕ) → (count ≡ 128 → ⊥) → s ≡ servedBy (refuse m) → m ≡ 117 → HostServed h count ws bs kind vs s h bs vs
+    pub host-bad : (s : Served) (m : ℕ) → (count ≡ 128 → ⊥) → s ≡ servedBy (refuse m) nowhere → m ≡ 117 → HostServed h count ws bs kind vs s h bs vs
     host-bad s m n es y =
         only-order s h bs vs
         (λ ms c x. order-done (headIn h) ms bs o vs (refuse 117) (short-edit (headIn h) ms bs (λ z. n (sym c ∙ z)) o) s (headIn h) vs
-        (es ∙ ap (λ (x : ℕ). servedBy (refuse x)) y) (refused-head 117 (headIn h)) (told-none 117 0 vs (λ z. omega (arith, z))))
+        (es ∙ ap (λ (x : ℕ). servedBy (refuse x) nowhere) y) (refused-head 117 (headIn h)) (told-none 117 0 vs (λ z. omega (arith, z))))
 
-    pub host-done : (s : Served) (h′ vs′ : List ℕ) (e : Edit) → count ≡ 128 → e ≡ boardHost (boardOf (headIn h) (recordsOf ws) bs) o → s ≡ servedBy e
+    pub host-done : (s : Served) (h′ vs′ : List ℕ) (e : Edit) → count ≡ 128 → e ≡ boardHost (boardOf (headIn h) (recordsOf ws) bs) o → s ≡ servedBy e nowhere
         → headIn h′ ≡ headAfter e (headIn h) → vs′ ≡ toldIn (e .errno) (e .value) vs
         → HostServed h count ws bs kind vs s h′ bs vs′
     host-done s h′ vs′ e n d es eh ev =

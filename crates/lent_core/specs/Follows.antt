@@ -61,7 +61,7 @@ followable b (Map i m) s g =
     let k = g (λ e. omega (arith, ap isChange e)) in
     let r = its-room b k i (s .0) (s .1) in
     (its-index b k, r .0, r .1)
-followable b (Clear a r) s g = its-index b (g (λ e. omega (arith, ap isChange e)))
+followable b (Clear a r) s g = (its-index b (g (λ e. omega (arith, ap isChange e))), s .0)
 
 -- THE LAW
 pub follows : (h : List ℕ) (ws : List (List ℕ)) (bs : List ℕ) (request : ℕ) (cs rs cs′ rs′ : List ℕ) (e : Edit) → Decided (boardOf (headIn h) (recordsOf ws) bs) request cs rs e cs′ rs′

@@ -1,6 +1,7 @@
 // A call on the head as words, the words of the mapping records and the index, which are lent. Head and index are written in place; what happens to the mapping records is
 // handed back. Another number of records than 128 is -117, and then nothing is written.
 ghost use Rattle.lent_core.specs.Serving.{CallServed, PreviewServed, HostServed};
+use index_search::Slots;
 use lent_edit::Served;
 
 // ---- commands
@@ -22,8 +23,9 @@ pub fn call(
     let e = iommufd::decide(h, ws, beside, request, cmd, area);
     lent_edit::commit(h, e);
     let c = e.change;
+    let v = index_search::slots_for(ws, beside, c);
     index_search::follow(ws, beside, c);
-    lent_edit::answer(e)
+    lent_edit::answer(e, v)
 }
 
 // What the same command would answer; table and index stay. The words are lent as `&mut` because two `&` of a signature have to live equally long.
@@ -73,5 +75,6 @@ pub fn host(
     let e = host_calls::decide_host(h, ws, beside, o);
     lent_order::tell(words, e.errno, e.value);
     lent_edit::commit(h, e);
-    lent_edit::answer(e)
+    let none = Slots { first: 0, end: 0 };
+    lent_edit::answer(e, none)
 }

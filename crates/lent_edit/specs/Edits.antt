@@ -7,6 +7,7 @@ use native.Mathlib.Omega.{arith}
 use lib.Dec.{leb}
 use lib.ListN.{set, length, length-map}
 use lib.Seq.{set-out}
+use borrow.Author.Tests.{leb-false}
 use Rattle.lists.specs.Tests.{by-test}
 use Rattle.ranges.specs.Ranges.{range, U64MAX}
 use Rattle.rules_table.specs.declared.Object.{Object}
@@ -25,6 +26,8 @@ use Rattle.rules_calls.specs.Edits.{objectsAfter, mappingsAfter, refuse}
 use Rattle.rules_lent.specs.Lent.{headAfter, recordsAfter}
 use Rattle.layout_objects.specs.Writing.{withRecord}
 use Rattle.layout_objects.specs.Slots.{objects-long}
+use Rattle.index_search.specs.declared.Slots.{Slots}
+use Rattle.index_search.specs.Spans.{Spanning}
 use Rattle.lent_records.specs.declared.Records.{Records}
 use Rattle.lent_records.specs.declared.Records.the-variants as record-variants
 use Rattle.lent_records.specs.Records.{stored}
@@ -47,16 +50,20 @@ objectOf (Drop i) o = freeObject
 objectOf (Map i m) o = o
 objectOf (Clear s r) o = o
 
--- what happens to the mapping records
-abbrev pub recordsFor : Change → Records
-recordsFor Nothing = record-variants.Keep
-recordsFor (Put i) = record-variants.Keep
-recordsFor (Drop i) = cond (leb 32 i) record-variants.Keep (record-variants.Clear (i + 1) (range 0 U64MAX))
-recordsFor (Map i m) = record-variants.Put i m
-recordsFor (Clear s r) = record-variants.Clear s r
+-- what happens to the mapping records; those that go are released in the slots of v
+abbrev pub recordsFor : Change → Slots → Records
+recordsFor Nothing v = record-variants.Keep
+recordsFor (Put i) v = record-variants.Keep
+recordsFor (Drop i) v = cond (leb 32 i) record-variants.Keep (record-variants.Clear (i + 1) (range 0 U64MAX) (v .first) (v .end))
+recordsFor (Map i m) v = record-variants.Put i m
+recordsFor (Clear s r) v = record-variants.Clear s r (v .first) (v .end)
 
-unfoldable pub servedBy : Edit → Served
-servedBy e = record { result = result (e .errno); records = recordsFor (e .change) }
+unfoldable pub servedBy : Edit → Slots → Served
+servedBy e v = record { result = result (e .errno); records = recordsFor (e .change) v }
+
+-- none go
+abbrev pub nowhere : Slots
+nowhere = record { first = 0; end = 0 }
 
 -- ---- laws
 
@@ -84,29 +91,32 @@ unfolding headAfter withRecord
 head-written h e = ap (λ (rs : List RawObject). record { limit = headIn h .limit; objects = rs })
     (objects-written (headIn h .objects) (head-long h) (e .object) (e .change))
 
-mappings-written : (ms : List Mapping) (c : Change) → stored (recordsFor c) ms ≡ mappingsAfter c ms
-mappings-written ms Nothing = stored-keep ms
-mappings-written ms (Put i) = stored-keep ms
-mappings-written ms (Drop i) =
+mappings-written : (ms : List Mapping) (c : Change) (v : Slots) → Spanning c ms v → stored (recordsFor c v) ms ≡ mappingsAfter c ms
+mappings-written ms Nothing v h = stored-keep ms
+mappings-written ms (Put i) v h = stored-keep ms
+mappings-written ms (Drop i) v h =
     by-test (leb 32 i)
     (λ e. rw e (stored-keep ms))
-    (λ e. rw e (stored-clear (i + 1) (range 0 U64MAX) ms ∙ release-same (within (i + 1) (range 0 U64MAX)) (ofSpace (i + 1)) ms (within-all (i + 1))))
-mappings-written ms (Map i m) = stored-put i m ms
-mappings-written ms (Clear s r) = stored-clear s r ms
+    (λ e.
+    let g = h (leb-false 32 i e) in
+    rw e (stored-clear (i + 1) (range 0 U64MAX) (v .first) (v .end) ms (g .low) (g .high) ∙ release-same (within (i + 1) (range 0 U64MAX)) (ofSpace (i + 1)) ms (within-all (i + 1))))
+mappings-written ms (Map i m) v h = stored-put i m ms
+mappings-written ms (Clear s r) v h = stored-clear s r (v .first) (v .end) ms (h .low) (h .high)
 
-pub records-written : (ms : List Mapping) (e : Edit) → stored (servedBy e .records) ms ≡ recordsAfter e ms
+-- where the slots are those of all records that go
+pub records-written : (ms : List Mapping) (e : Edit) (v : Slots) → Spanning (e .change) ms v → stored (servedBy e v .records) ms ≡ recordsAfter e ms
 unfolding recordsAfter servedBy
-records-written ms e = mappings-written ms (e .change)
+records-written ms e v h = mappings-written ms (e .change) v h
 
 -- a refusal writes nothing
 pub refused-head : (n : ℕ) (h : Head) → h ≡ headAfter (refuse n) h
 unfolding headAfter
 refused-head n h = refl
 
-pub refused-records : (n : ℕ) (ms : List Mapping) → stored (servedBy (refuse n) .records) ms ≡ ms
+pub refused-records : (n : ℕ) (ms : List Mapping) → stored (servedBy (refuse n) nowhere .records) ms ≡ ms
 unfolding servedBy
 refused-records n ms = stored-keep ms
 
-pub refused-result : (n : ℕ) → servedBy (refuse n) .result ≡ result n
+pub refused-result : (n : ℕ) → servedBy (refuse n) nowhere .result ≡ result n
 unfolding servedBy
 refused-result n = refl

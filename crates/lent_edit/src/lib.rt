@@ -5,7 +5,8 @@ ghost use Rattle.rules_table.specs.Words.{headIn};
 ghost use Rattle.rules_calls.specs.Edits.{refuse};
 ghost use Rattle.rules_lent.specs.Lent.{headAfter};
 ghost use Rattle.layout_objects.specs.Writing.{withRecord};
-ghost use Rattle.lent_edit.specs.Edits.{slotOf, objectOf, recordsFor, servedBy};
+ghost use Rattle.lent_edit.specs.Edits.{slotOf, objectOf, recordsFor, nowhere, servedBy};
+use index_search::Slots;
 use lent_records::Records;
 use ranges::Range;
 use rules_calls::Change;
@@ -20,7 +21,7 @@ pub struct Served {
 
 // An errno, and no record changes.
 pub fn refused(errno: u8) -> Served
-    ensures { λ s. ⌜ s ≡ servedBy (refuse errno) ⌝ }
+    ensures { λ s. ⌜ s ≡ servedBy (refuse errno) nowhere ⌝ }
 {
     let keep = Records::Keep;
     Served {
@@ -61,8 +62,8 @@ fn object_of(c: Change, o: Object) -> Object
 // ---- the mapping records
 
 // The mappings of a space that goes.
-fn dropped(i: usize) -> Records
-    ensures { λ r. ⌜ r ≡ recordsFor (Change.Drop i) ⌝ }
+fn dropped(i: usize, v: Slots) -> Records
+    ensures { λ r. ⌜ r ≡ recordsFor (Change.Drop i) v ⌝ }
 {
     if 32 <= i {
         return Records::Keep;
@@ -71,18 +72,19 @@ fn dropped(i: usize) -> Records
         start: 0,
         last: ranges::U64MAX,
     };
-    Records::Clear((i + 1) as u32, all)
+    Records::Clear((i + 1) as u32, all, v.first, v.end)
 }
 
-fn records_for(c: Change) -> Records
-    ensures { λ r. ⌜ r ≡ recordsFor c ⌝ }
+// Those that go are released in these slots.
+fn records_for(c: Change, v: Slots) -> Records
+    ensures { λ r. ⌜ r ≡ recordsFor c v ⌝ }
 {
     match c {
         Change::Nothing => Records::Keep,
         Change::Put(_) => Records::Keep,
-        Change::Drop(i) => dropped(i),
+        Change::Drop(i) => dropped(i, v),
         Change::Map(i, m) => Records::Put(i, m),
-        Change::Clear(s, r) => Records::Clear(s, r),
+        Change::Clear(s, r) => Records::Clear(s, r, v.first, v.end),
     }
 }
 
@@ -104,13 +106,13 @@ pub fn commit(h: &mut [u64; 865], e: Edit)
     put_object(h, slot_of(c), object_of(c, o));
 }
 
-// What an edit answers. Apart from commit, so that both are small enough to be compiled into their callers: by value an edit takes more stack.
-pub fn answer(e: Edit) -> Served
-    ensures { λ s. ⌜ s ≡ servedBy e ⌝ }
+// What an edit answers; the records that go lie in these slots. Apart from commit, so that both are small enough to be compiled into their callers: by value an edit takes more stack.
+pub fn answer(e: Edit, v: Slots) -> Served
+    ensures { λ s. ⌜ s ≡ servedBy e v ⌝ }
 {
     let c = e.change;
     Served {
         result: opening::signed_result(e.errno),
-        records: records_for(c),
+        records: records_for(c, v),
     }
 }

@@ -19,7 +19,7 @@ use Rattle.lent_records.specs.Records.{stored}
 use Rattle.lent_records.specs.Lent.{stored-wipe}
 use Rattle.lent_records.specs.declared.Records.the-variants.{Wipe}
 use Rattle.lent_edit.specs.declared.Served.{Served}
-use Rattle.lent_edit.specs.Edits.{servedBy, refused-records, refused-result}
+use Rattle.lent_edit.specs.Edits.{nowhere, servedBy, refused-records, refused-result}
 
 -- fresh: for every slice of so many records
 pub record FreshServed (h : List ℕ) (count : ℕ) (bs : List ℕ) (limit : ℕ) (s : Served) (h′ bs′ : List ℕ) : Type 0 where
@@ -40,7 +40,7 @@ errno-none ms ix limit l k m = rw (eq-eqb (length ms) 128 l, eq-eqb (length ix) 
 
 module _ (h : List ℕ) (count : ℕ) (bs : List ℕ) (limit : ℕ) where
   -- an errno other than 0 leaves everything
-  fresh-refused : (s : Served) (n : ℕ) → ((ms : List Mapping) → length ms ≡ count → freshErrno ms bs limit ≡ n) → (n ≡ 0 → ⊥) → s ≡ servedBy (refuse n) → FreshServed h count bs limit s h bs
+  fresh-refused : (s : Served) (n : ℕ) → ((ms : List Mapping) → length ms ≡ count → freshErrno ms bs limit ≡ n) → (n ≡ 0 → ⊥) → s ≡ servedBy (refuse n) nowhere → FreshServed h count bs limit s h bs
   fresh-refused s n f z es = record {
     served = λ ms c. rw es (record {
       result = rw (f ms c) (refused-result n);
@@ -50,13 +50,13 @@ module _ (h : List ℕ) (count : ℕ) (bs : List ℕ) (limit : ℕ) where
     });
   }
 
-  pub fresh-short : (s : Served) (k : ℕ) → (count ≡ 128 → ⊥) → s ≡ servedBy (refuse k) → k ≡ 117 → FreshServed h count bs limit s h bs
+  pub fresh-short : (s : Served) (k : ℕ) → (count ≡ 128 → ⊥) → s ≡ servedBy (refuse k) nowhere → k ≡ 117 → FreshServed h count bs limit s h bs
   fresh-short s k n es z = fresh-refused s k (λ ms c. errno-short ms bs limit (λ x. n (sym c ∙ x)) ∙ sym z) (λ x. omega (arith, x, z)) es
 
-  pub fresh-other : (s : Served) (k : ℕ) → count ≡ 128 → (length bs ≡ 128 → ⊥) → s ≡ servedBy (refuse k) → k ≡ 117 → FreshServed h count bs limit s h bs
+  pub fresh-other : (s : Served) (k : ℕ) → count ≡ 128 → (length bs ≡ 128 → ⊥) → s ≡ servedBy (refuse k) nowhere → k ≡ 117 → FreshServed h count bs limit s h bs
   fresh-other s k l n es z = fresh-refused s k (λ ms c. errno-other ms bs limit (c ∙ l) n ∙ sym z) (λ x. omega (arith, x, z)) es
 
-  pub fresh-over : (s : Served) (k : ℕ) → count ≡ 128 → length bs ≡ 128 → mostLimit < limit → s ≡ servedBy (refuse k) → k ≡ 22 → FreshServed h count bs limit s h bs
+  pub fresh-over : (s : Served) (k : ℕ) → count ≡ 128 → length bs ≡ 128 → mostLimit < limit → s ≡ servedBy (refuse k) nowhere → k ≡ 22 → FreshServed h count bs limit s h bs
   fresh-over s k l n m es z = fresh-refused s k (λ ms c. errno-over ms bs limit (c ∙ l) n m ∙ sym z) (λ x. omega (arith, x, z)) es
 
   pub fresh-made : (h′ bs′ : List ℕ) → count ≡ 128 → length bs ≡ 128 → limit ≤ mostLimit → headIn h′ ≡ freshHead limit → bs′ ≡ replicate 128 0

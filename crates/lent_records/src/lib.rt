@@ -12,8 +12,8 @@ pub enum Records {
     Keep,
     // The record at a place becomes this mapping.
     Put(usize, Mapping),
-    // The mappings of a space that lie wholly inside a range are released.
-    Clear(u32, Range),
+    // The mappings of a space that lie wholly inside a range are released, of those from one place on and before another.
+    Clear(u32, Range, usize, usize),
     // Every record is released.
     Wipe,
 }
@@ -25,7 +25,10 @@ pub fn is_changed(c: Records, k: usize, m: Mapping) -> bool
     match c {
         Records::Keep => false,
         Records::Put(i, _) => k == i,
-        Records::Clear(s, r) => table::is_within(m, s, r),
+        Records::Clear(s, r, first, end) => checks::both(
+            first <= k,
+            checks::both(k < end, table::is_within(m, s, r)),
+        ),
         Records::Wipe => true,
     }
 }
@@ -46,7 +49,7 @@ pub fn new_record(c: Records) -> Mapping
     match c {
         Records::Keep => zero,
         Records::Put(_, m) => m,
-        Records::Clear(_, _) => zero,
+        Records::Clear(_, _, _, _) => zero,
         Records::Wipe => zero,
     }
 }
@@ -61,26 +64,26 @@ fn bound(n: usize) -> usize
     0
 }
 
-// Of n records those before this place are looked at: none where none changes; where one is put, none after it.
+// Of n records those before this place are looked at: none where none changes; where one is put, none after it; where some are released, none after the last of them.
 fn turns(c: Records, n: usize) -> usize
     ensures { λ k. ⌜ k ≡ turnsOf c n ⌝ }
 {
     match c {
         Records::Keep => 0,
         Records::Put(i, _) => if i < n { i + 1 } else { 0 },
-        Records::Clear(_, _) => n,
+        Records::Clear(_, _, _, end) => if end < n { end } else { n },
         Records::Wipe => n,
     }
 }
 
-// And those from this place on: where one is put, none before it.
+// And those from this place on: where one is put or some are released, none before the first of them.
 fn first_turn(c: Records, n: usize) -> usize
     ensures { λ k. ⌜ k ≡ firstOf c n ⌝ }
 {
     match c {
         Records::Keep => 0,
         Records::Put(i, _) => if i < n { i } else { 0 },
-        Records::Clear(_, _) => 0,
+        Records::Clear(_, _, first, _) => if first < n { first } else { n },
         Records::Wipe => 0,
     }
 }
@@ -97,7 +100,7 @@ pub fn load(ms: &[Mapping], ws: &mut [[u64; 5]; 128])
     }
 }
 
-// Only the records that change are written; the one that is put is looked at alone.
+// Only the records that change are written; the one that is put is looked at alone, and of those that are released the places between which they lie.
 pub fn store(ms: &mut [Mapping], c: Records)
     ensures { λ _. ⌜ now (ms .exit) ≡ stored c (now (ms .entry)) ⌝ }
 {

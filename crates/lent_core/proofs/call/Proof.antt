@@ -1,4 +1,4 @@
--- 117, or what is decided, committed and followed by the index.
+-- 117, or what is decided, committed and followed by the index, which tells the slots of the records that go.
 use native.Mathlib.Omega.{arith}
 use Rattle.lent_core.specs.Endings.{call-short, call-done}
 use Rattle.lent_core.specs.Follows.{follows}
@@ -18,10 +18,15 @@ decide-requires c κs = search needs
 commit-requires : tie.Need-commit-requires
 commit-requires c κs = search needs
 
-follow-requires : tie.Need-follow-requires
-follow-requires c κs = follows _
+slots-for-requires : tie.Need-slots-for-requires
+slots-for-requires c κs = follows _
     (c .before .before .before .before .before .before .before .before .before .before .before .before .before .before .before .before .before .before .args .ws .now) _ _ _ _ _ _ _
     (c .before .before .before .before .before .before .before .before .decide .ensures)
+
+follow-requires : tie.Need-follow-requires
+follow-requires c κs = follows _
+    (c .before .before .before .before .before .before .before .before .before .before .before .before .before .before .before .before .before .before .before .before .before .args .ws .now) _ _ _ _ _ _ _
+    (c .before .before .before .before .before .before .before .before .before .before .before .decide .ensures)
 
 answer-requires : tie.Need-answer-requires
 answer-requires c κs = search needs
@@ -36,9 +41,9 @@ same-length-3 : tie.Need-same-length-3
 same-length-3 c = search needs
 
 returns-2 : tie.Need-returns-2
-returns-2 c = call-done _ _ _ _ _ _ _ _ _ _ _ _ _ (omega arith)
-    (c .before .before .before .before .before .before .before .before .before .before .before .before .decide .ensures) (c .answer .ensures)
-    (c .before .before .before .before .before .before .commit .ensures) (c .before .before .before .follow .ensures)
+returns-2 c = call-done _ _ _ _ _ _ _ _ _ _ _ _ _ _ (omega arith)
+    (c .before .before .before .before .before .before .before .before .before .before .before .before .before .before .before .decide .ensures) (c .answer .ensures) (c .before .before .before .before .before .before .slots-for .ensures)
+    (c .before .before .before .before .before .before .before .before .before .commit .ensures) (c .before .before .before .follow .ensures)
 
 pub call-spec : {M : Type 1} → statement M
 call-spec =
@@ -48,6 +53,7 @@ call-spec =
     returns
     decide-requires
     commit-requires
+    slots-for-requires
     follow-requires
     answer-requires
     same-length

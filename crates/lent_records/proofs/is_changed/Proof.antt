@@ -15,6 +15,12 @@ enum-known-c-2 c = search needs
 is-within-requires : tie.Need-is-within-requires
 is-within-requires c κs = search needs
 
+both-requires : tie.Need-both-requires
+both-requires c κs = search needs
+
+both-requires-2 : tie.Need-both-requires-2
+both-requires-2 c κs = search needs
+
 enum-told-2 : tie.Need-enum-told-2
 enum-told-2 c = search needs
 
@@ -25,7 +31,7 @@ returns-2 : tie.Need-returns-2
 returns-2 c = rw (c .before .c .given .1)
 
 returns-3 : tie.Need-returns-3
-returns-3 c = rw (c .is-within .ensures, c .before .before .c2 .given .1)
+returns-3 c = rw (c .both2 .ensures, c .before .both .ensures, c .before .before .is-within .ensures, c .before .before .before .before .c2 .given .1)
 
 returns-4 : tie.Need-returns-4
 returns-4 c = search needs
@@ -38,6 +44,8 @@ is-changed-spec =
     enum-known-c
     enum-known-c-2
     is-within-requires
+    both-requires
+    both-requires-2
     enum-told-2
     returns
     returns-2
