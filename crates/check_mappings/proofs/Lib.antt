@@ -1,5 +1,4 @@
 pub mod Emptying
-pub mod Freeing
 pub mod Skipping
 pub mod Marking
 pub mod Ruling

@@ -17,7 +17,6 @@ use Rattle.check_mappings.specs.declared.Pass.{Pass}
 use Rattle.check_mappings.specs.Next.{Next}
 use Rattle.check_mappings.specs.Told.{pageOf, aloneBy, Told}
 use Rattle.check_mappings.proofs.Emptying.{empty-alone, full-used, full-sound}
-use Rattle.check_mappings.proofs.Freeing.{Freed, freed-next, freed-on, freed-end}
 use Rattle.check_mappings.proofs.Marking.{Seen, here, markHere, seen-start, seen-agree, seen-count, seen-charge, seen-firsts, backing-most, leader-most, seen-disagree, seen-on, seen-skip}
 use Rattle.check_mappings.proofs.Ruling.{Right, sound-right}
 use Rattle.check_mappings.proofs.Straying.{page-named}
@@ -81,7 +80,6 @@ bad-told pages ms e p b marks = record {
   good = b ∙ sym e;
   used = λ g. contrary (p .good) g b;
   charge = λ g. contrary (p .good) g b;
-  free = λ g. contrary (p .good) g b;
   firsts = λ g. contrary (p .good) g b;
 }
 
@@ -124,11 +122,6 @@ module _ (pages : List ℕ) (ms : List Mapping) (i count charge : ℕ) (marks : 
       pub visiting-leader : leaderPlace (getD marks (m .backing) 0) i ≤ i
       visiting-leader = rw em (leader-most ms i count charge marks (v .seen) less num live)
 
-      -- the lowest released slot, to the next record
-      pub visiting-free : (free a n f : ℕ) → Freed ms i free → a ≡ i + 1 → Next ms a n → (n ≤ a → f ≡ free) → (free < 128 → f ≡ free) → (a < n → 128 ≤ free → f ≡ a) → Freed ms n f
-      visiting-free free a n f o ea x still kept first =
-          freed-next ms a free n f (v .seen .many) x still kept first (rw ea (freed-on ms i free inside live o))
-
       -- whether it differs from the first of its backing
       module _ (d : Bool) (ed : m ≡ here ms i → d ≡ differ (getD ms (leaderPlace (getD marks (m .backing) 0) i) zeroMapping) m) where
         apart : d ≡ differ (getD ms (leaderPlace (markHere ms marks i) i) zeroMapping) (here ms i)
@@ -151,11 +144,10 @@ module _ (pages : List ℕ) (ms : List Mapping) (i count charge : ℕ) (marks : 
             }
             x
 
-  pub visiting-end : (free : ℕ) → Freed ms i free → 128 ≤ i → Told pages ms record { good = true; used = count; charge = charge; free = free } marks
-  visiting-end free f l = record {
+  pub visiting-end : 128 ≤ i → Told pages ms record { good = true; used = count; charge = charge } marks
+  visiting-end l = record {
     good = sym (and-both (all (aloneBy pages) ms) (backingsAgree ms) (sym (all-end (aloneBy pages) ms i (v .alone) (omega (arith, v .seen .many)))) (seen-agree ms i count charge marks (v .seen) l));
     used = λ g. seen-count ms i count charge marks (v .seen) l;
     charge = λ g. seen-charge ms i count charge marks (v .seen) l;
-    free = λ g. freed-end ms i free (omega (arith, v .seen .many)) f;
     firsts = λ g. seen-firsts ms i count charge marks (v .seen) l;
   }

@@ -13,13 +13,11 @@ ghost use Rattle.check_mappings.specs.Next.{Next};
 ghost use Rattle.check_mappings.specs.Told.{pageOf, Told};
 use rules_table::Mapping;
 
-// What one pass over the records tells: whether each keeps its own rules and the records of each backing agree.
-// If so: how many are in use, the pages of all backings, and the lowest released slot, 128 where there is none.
+// What one pass over the records tells: whether each keeps its own rules and the records of each backing agree. If so: how many are in use, and the pages of all backings.
 pub struct Pass {
     pub good: bool,
     pub used: usize,
     pub charge: u64,
-    pub free: usize,
 }
 
 // A record and the first of its backing: whether they differ, the pages that the record adds to the charge, and the mark of the backing after it.
@@ -55,19 +53,6 @@ fn next_used(ws: &[[u64; 5]], from: usize) -> usize
         }
     }
     skip_blank(ws, from)
-}
-
-// The lowest released slot so far, after released slots from i on before j: 128 stands for none. Where j is i, nothing is left to do.
-fn free_to(free: usize, i: usize, j: usize) -> usize
-    ensures { λ f. ⌜ (j ≤ i → f ≡ free) × (free < 128 → f ≡ free) × (i < j → 128 ≤ free → f ≡ i) ⌝ }
-{
-    if j <= i {
-        return free;
-    }
-    if free < 128 {
-        return free;
-    }
-    i
 }
 
 // The rules of a record in use, given the alignment of its space: the first that is broken ends it.
@@ -162,11 +147,10 @@ pub fn bad_pass() -> Pass
         good: false,
         used: 0,
         charge: 0,
-        free: 128,
     }
 }
 
-// One pass over the records in use, which counts them: each by itself and with the first of its backing. The lowest released slot falls out of it.
+// One pass over the records in use, which counts them: each by itself and with the first of its backing.
 // Place s of `pages` has the alignment of space s, and 0 where s is no space. Place b of `marks` becomes one more than the place of the first record of backing b.
 pub fn pass_over<'a>(ws: &'a [[u64; 5]], pages: &'a [u64], marks: &'a mut [u8]) -> Pass
     requires { ⌜ (length (now ws) ≡ 128) × (length (now pages) ≡ 33) × (now marks ≡ replicate 129 0) ⌝ }
@@ -175,7 +159,6 @@ pub fn pass_over<'a>(ws: &'a [[u64; 5]], pages: &'a [u64], marks: &'a mut [u8]) 
     let mut charge: u64 = 0;
     let mut used: usize = 0;
     let mut i = next_used(ws, 0);
-    let mut free = free_to(128, 0, i);
     while i < 128 {
         let m = layout_mappings::record(ws, i);
         let page = page_of(pages, m.space);
@@ -191,14 +174,11 @@ pub fn pass_over<'a>(ws: &'a [[u64; 5]], pages: &'a [u64], marks: &'a mut [u8]) 
         charge += standing.pages;
         marks[b] = standing.mark;
         used += 1;
-        let after = i + 1;
-        i = next_used(ws, after);
-        free = free_to(free, after, i);
+        i = next_used(ws, i + 1);
     }
     Pass {
         good: true,
         used,
         charge,
-        free,
     }
 }

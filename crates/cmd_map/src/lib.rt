@@ -198,7 +198,7 @@ pub fn decide_map<'a>(
     if place.errno != 0 {
         return edits::refusal(place.errno);
     }
-    let v = scan::survey_of(p, marks);
+    let v = scan::survey_of(ws, p, marks);
     let free = v.free;
     let full = room_errno(
         free,

@@ -1,4 +1,4 @@
--- The lowest released slot, and the survey: from what the pass hands on the slot, the lowest number without a mark and the charge.
+-- The survey: the lowest released slot, and from what the pass hands on the lowest number without a mark and the charge.
 use Prim.Native.Nat.{ℕ, zero, suc, _+_, _-_, _≤_, _<_}
 use mathlib.Core.Path.{_≡_, refl, sym, ap, _∙_}
 use mathlib.Core.Bool.{Bool, true, false, not}
@@ -7,7 +7,7 @@ use mathlib.Core.Option.{Option, none, some, Option·getD}
 use native.Mathlib.Omega.{arith}
 use lib.Dec.{eqb}
 use lib.ListN.{length, getD, drop}
-use borrow.Author.Tests.{eq-eqb, ne-eqb, lt-ltb, le-ltb}
+use borrow.Author.Tests.{eq-eqb, ne-eqb}
 use Rattle.lists.specs.Tests.{by-test}
 use Rattle.lists.specs.Search.{any, seek, seek-none, seek-any-false, seek-some-lt, seek-found, seek-on, seek-end}
 use Rattle.lists.specs.Below.{lowest, lowest-some, lowest-found, lowest-on, lowest-end}
@@ -19,7 +19,7 @@ use Rattle.rules_table.specs.Records.{used, zeroMapping}
 use Rattle.rules_table.specs.Charge.{backs, freeMapping, freeBacking}
 use Rattle.scan.specs.Surveyed.{surveyOf}
 use Rattle.check_mappings.specs.declared.Pass.{Pass}
-use Rattle.check_mappings.specs.Told.{Told, markOf, slotAt}
+use Rattle.check_mappings.specs.Told.{Told, markOf}
 
 -- ---- the lowest released slot
 
@@ -127,15 +127,6 @@ lowest-cong p q (suc n) k h =
 
 -- ---- the survey
 
-module _ (k : ℕ) where
-  pub slot-at : k < 128 → At k ≡ found (slotAt k)
-  unfolding slotAt
-  slot-at h = rw (lt-ltb k 128 h)
-
-  pub slot-nothing : 128 ≤ k → Nothing ≡ found (slotAt k)
-  unfolding slotAt
-  slot-nothing h = rw (le-ltb k 128 h)
-
 -- no mark: no record has the backing
 mark-none : (b : ℕ) (ms : List Mapping) → eqb (markOf (seek (backs b) 0 ms)) 0 ≡ not (any (backs b) ms)
 mark-none b ms = go (seek (backs b) 0 ms) refl
@@ -148,8 +139,8 @@ mark-none b ms = go (seek (backs b) 0 ms) refl
         (λ t. let f = seek-any-false (backs b) 0 ms t in let z : _≡_ {A = ℕ} 0 1 = cc in absurd (omega arith))
 
 pub told-survey : (pages : List ℕ) (ms : List Mapping) (p : Pass) (marks : List ℕ) (f b : Found) → Told pages ms p marks → p .good ≡ true
-    → f ≡ found (slotAt (p .free)) → b ≡ found (lowest (λ b. eqb (getD marks b 0) 0) 128 1)
+    → f ≡ found (freeMapping ms) → b ≡ found (lowest (λ b. eqb (getD marks b 0) 0) 128 1)
     → record { free = f; backing = b; charge = p .charge } ≡ surveyOf ms
 unfolding surveyOf freeBacking
 told-survey pages ms p marks f b t g ef eb =
-    rw (ef, t .free g, eb, lowest-cong (unmarked marks) (λ b. not (any (backs b) ms)) 128 1 (λ b k l. rw (t .firsts g b k (omega arith)) (mark-none b ms)), t .charge g)
+    rw (ef, eb, lowest-cong (unmarked marks) (λ b. not (any (backs b) ms)) 128 1 (λ b k l. rw (t .firsts g b k (omega arith)) (mark-none b ms)), t .charge g)

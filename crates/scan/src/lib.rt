@@ -8,10 +8,9 @@ ghost use lib.Dec.{eqb};
 ghost use lib.ListN.{length, getD};
 ghost use Rattle.lists.specs.Below.{lowest};
 ghost use Rattle.rangelists.specs.Listed.{found};
-ghost use Rattle.rules_table.specs.declared.Mapping.{Mapping};
 ghost use Rattle.rules_table.specs.Charge.{freeMapping};
 ghost use Rattle.layout_mappings.specs.Words.{recordsOf};
-ghost use Rattle.check_mappings.specs.Told.{slotAt, Told};
+ghost use Rattle.check_mappings.specs.Told.{Told};
 ghost use Rattle.scan.specs.Surveyed.{surveyOf};
 use check_mappings::Pass;
 use rangelists::Found;
@@ -76,22 +75,12 @@ fn lowest_unmarked(marks: &[u8]) -> Found
     Found::Nothing
 }
 
-// A slot by its number: 128 stands for none.
-fn slot_found(k: usize) -> Found
-    ensures { λ f. ⌜ f ≡ found (slotAt k) ⌝ }
-{
-    if k < 128 {
-        return Found::At(k);
-    }
-    Found::Nothing
-}
-
-// From what the check has found: only the backing number is looked for.
-pub fn survey_of(p: Pass, marks: &[u8]) -> Survey
+// From what the check has found: only the released slot is looked for.
+pub fn survey_of<'a>(ws: &'a [[u64; 5]], p: Pass, marks: &'a [u8]) -> Survey
     requires { ⌜ length (now marks) ≡ 129 ⌝ }
-    ensures { λ v. ⌜ ((pages : List ℕ) (ms : List Mapping) → Told pages ms p (now (marks .entry)) → p .good ≡ true → v ≡ surveyOf ms) ⌝ }
+    ensures { λ v. ⌜ ((pages : List ℕ) → Told pages (recordsOf (now (ws .entry))) p (now (marks .entry)) → p .good ≡ true → v ≡ surveyOf (recordsOf (now (ws .entry)))) ⌝ }
 {
-    let free = slot_found(p.free);
+    let free = free_record(ws);
     let backing = lowest_unmarked(marks);
     Survey {
         free,

@@ -4,26 +4,22 @@ use mathlib.Core.Path.{sym, _∙_}
 use native.Mathlib.Omega.{arith}
 use borrow.Author.Tests.{not-true, not-false}
 use Rattle.layout_mappings.specs.Words.{recordsOf, records-length}
-use Rattle.check_mappings.proofs.Freeing.{Freed, freed-start}
 use Rattle.check_mappings.proofs.Marking.{seen-few}
-use Rattle.check_mappings.proofs.Passing.{Visiting, marks-long, visiting-start, visiting-failed, visiting-right, visiting-space, visiting-backing, visiting-leader, visiting-differ, visiting-free, visiting-on, visiting-end}
+use Rattle.check_mappings.proofs.Passing.{Visiting, marks-long, visiting-start, visiting-failed, visiting-right, visiting-space, visiting-backing, visiting-leader, visiting-differ, visiting-on, visiting-end}
 use Rattle.check_mappings.proofs.pass_over.Statement.{statement}
 use Rattle.check_mappings.proofs.pass_over.Tie as tie
 
 abbrev Inv-loop : tie.InvT-loop
-Inv-loop ws pages marks₀ charge₀ used₀ i₀ free₀ marks charge used i free = Visiting pages (recordsOf ws) i used charge marks × Freed (recordsOf ws) i free
+Inv-loop ws pages marks₀ charge₀ used₀ i₀ marks charge used i = Visiting pages (recordsOf ws) i used charge marks
 
 abbrev μ-loop : tie.MeasureT-loop
-μ-loop ws pages marks₀ charge₀ used₀ i₀ free₀ marks charge used i free = 128 - i
+μ-loop ws pages marks₀ charge₀ used₀ i₀ marks charge used i = 128 - i
 
 next-used-requires : tie.Need-next-used-requires Inv-loop μ-loop
 next-used-requires c κs = (omega arith, c .before .before .pre .0)
 
-free-to-requires : tie.Need-free-to-requires Inv-loop μ-loop
-free-to-requires c κs = search needs
-
 loop-holds : tie.Need-loop-holds Inv-loop μ-loop
-loop-holds c = let a = c .before .before .before .before .args in (visiting-start (a .pages .now) (recordsOf (a .ws .now)) (a .marks .now) _ (search needs) (records-length (a .ws .now) ∙ search needs) (search needs) (c .before .next-used .ensures), freed-start (recordsOf (a .ws .now)) _ _ (c .before .next-used .result) (c .free-to .result) (records-length (a .ws .now) ∙ search needs) (omega arith) (omega arith) (c .before .next-used .ensures) (c .free-to .ensures .0) (c .free-to .ensures .1) (c .free-to .ensures .2))
+loop-holds c = let a = c .before .before .before .args in visiting-start (a .pages .now) (recordsOf (a .ws .now)) (a .marks .now) _ (search needs) (records-length (a .ws .now) ∙ search needs) (search needs) (c .next-used .ensures)
 
 record-requires : tie.Need-record-requires Inv-loop μ-loop
 record-requires c κs = search needs
@@ -38,58 +34,55 @@ bad-pass-requires : tie.Need-bad-pass-requires Inv-loop μ-loop
 bad-pass-requires c κs = search needs
 
 same-length : tie.Need-same-length Inv-loop μ-loop
-same-length c = c .before .before .before .before .before .before .loop .inv .0 .passing .seen .room ∙ sym (marks-long (c .before .before .before .before .before .before .before .before .before .before .before .args .marks .now) (c .before .before .before .before .before .before .before .before .before .before .before .pre .2))
+same-length c = c .before .before .before .before .before .before .loop .inv .passing .seen .room ∙ sym (marks-long (c .before .before .before .before .before .before .before .before .before .before .args .marks .now) (c .before .before .before .before .before .before .before .before .before .before .pre .2))
 
 returns : tie.Need-returns Inv-loop μ-loop
-returns c = visiting-failed (c .before .before .before .before .before .before .before .before .before .before .before .args .pages .now) (recordsOf (c .before .before .before .before .before .before .before .before .before .before .before .args .ws .now)) (c .before .before .before .before .before .before .loop .i) _ _ _ (c .before .before .before .before .before .before .loop .inv .0) _ _ (omega (arith, c .before .before .before .before .before .loop-test .taken)) (c .before .before .before .before .«record» .ensures) (c .before .before .is-right .ensures ∙ rw (c .before .before .before .page-of .ensures)) (not-true _ (c .before .if1 .taken)) _ (c .bad-pass .ensures) _
+returns c = visiting-failed (c .before .before .before .before .before .before .before .before .before .before .args .pages .now) (recordsOf (c .before .before .before .before .before .before .before .before .before .before .args .ws .now)) (c .before .before .before .before .before .before .loop .i) _ _ _ (c .before .before .before .before .before .before .loop .inv) _ _ (omega (arith, c .before .before .before .before .before .loop-test .taken)) (c .before .before .before .before .«record» .ensures) (c .before .before .is-right .ensures ∙ rw (c .before .before .before .page-of .ensures)) (not-true _ (c .before .if1 .taken)) _ (c .bad-pass .ensures) _
 
 cast-b : tie.Need-cast-b Inv-loop μ-loop
 cast-b c = search needs
 
 slice-read-mark : tie.Need-slice-read-mark Inv-loop μ-loop
-slice-read-mark c = omega (arith, c .before .before .before .before .before .before .before .loop .inv .0 .passing .seen .room, visiting-backing (c .before .before .before .before .before .before .before .before .before .before .before .before .args .pages .now) (recordsOf (c .before .before .before .before .before .before .before .before .before .before .before .before .args .ws .now)) (c .before .before .before .before .before .before .before .loop .i) _ _ _ (c .before .before .before .before .before .before .before .loop .inv .0) _ _ (omega (arith, c .before .before .before .before .before .before .loop-test .taken)) (c .before .before .before .before .before .«record» .ensures) (c .before .before .before .is-right .ensures ∙ rw (c .before .before .before .before .page-of .ensures)) (not-false _ (c .before .before .if1 .left)))
+slice-read-mark c = omega (arith, c .before .before .before .before .before .before .before .loop .inv .passing .seen .room, visiting-backing (c .before .before .before .before .before .before .before .before .before .before .before .args .pages .now) (recordsOf (c .before .before .before .before .before .before .before .before .before .before .before .args .ws .now)) (c .before .before .before .before .before .before .before .loop .i) _ _ _ (c .before .before .before .before .before .before .before .loop .inv) _ _ (omega (arith, c .before .before .before .before .before .before .loop-test .taken)) (c .before .before .before .before .before .«record» .ensures) (c .before .before .before .is-right .ensures ∙ rw (c .before .before .before .before .page-of .ensures)) (not-false _ (c .before .before .if1 .left)))
 
 standing-of-requires : tie.Need-standing-of-requires Inv-loop μ-loop
-standing-of-requires c κs = let r = visiting-right (c .before .before .before .before .before .before .before .before .before .before .before .before .args .pages .now) (recordsOf (c .before .before .before .before .before .before .before .before .before .before .before .before .args .ws .now)) (c .before .before .before .before .before .before .before .loop .i) _ _ _ (c .before .before .before .before .before .before .before .loop .inv .0) _ _ (omega (arith, c .before .before .before .before .before .before .loop-test .taken)) (c .before .before .before .before .before .«record» .ensures) (c .before .before .before .is-right .ensures ∙ rw (c .before .before .before .before .page-of .ensures)) (not-false _ (c .before .before .if1 .left)) in (omega (arith, c .before .before .before .before .before .before .before .before .before .before .before .before .pre .0, c .before .before .before .before .before .before .loop-test .taken, visiting-leader (c .before .before .before .before .before .before .before .before .before .before .before .before .args .pages .now) (recordsOf (c .before .before .before .before .before .before .before .before .before .before .before .before .args .ws .now)) (c .before .before .before .before .before .before .before .loop .i) _ _ _ (c .before .before .before .before .before .before .before .loop .inv .0) _ _ (omega (arith, c .before .before .before .before .before .before .loop-test .taken)) (c .before .before .before .before .before .«record» .ensures) (c .before .before .before .is-right .ensures ∙ rw (c .before .before .before .before .page-of .ensures)) (not-false _ (c .before .before .if1 .left))), omega (arith, c .before .before .before .before .before .before .loop-test .taken), visiting-space (c .before .before .before .before .before .before .before .before .before .before .before .before .args .pages .now) (recordsOf (c .before .before .before .before .before .before .before .before .before .before .before .before .args .ws .now)) (c .before .before .before .before .before .before .before .loop .i) _ _ _ (c .before .before .before .before .before .before .before .loop .inv .0) _ _ (omega (arith, c .before .before .before .before .before .before .loop-test .taken)) (c .before .before .before .before .before .«record» .ensures) (c .before .before .before .is-right .ensures ∙ rw (c .before .before .before .before .page-of .ensures)) (not-false _ (c .before .before .if1 .left)), r .long, r .holds)
+standing-of-requires c κs = let r = visiting-right (c .before .before .before .before .before .before .before .before .before .before .before .args .pages .now) (recordsOf (c .before .before .before .before .before .before .before .before .before .before .before .args .ws .now)) (c .before .before .before .before .before .before .before .loop .i) _ _ _ (c .before .before .before .before .before .before .before .loop .inv) _ _ (omega (arith, c .before .before .before .before .before .before .loop-test .taken)) (c .before .before .before .before .before .«record» .ensures) (c .before .before .before .is-right .ensures ∙ rw (c .before .before .before .before .page-of .ensures)) (not-false _ (c .before .before .if1 .left)) in (omega (arith, c .before .before .before .before .before .before .before .before .before .before .before .pre .0, c .before .before .before .before .before .before .loop-test .taken, visiting-leader (c .before .before .before .before .before .before .before .before .before .before .before .args .pages .now) (recordsOf (c .before .before .before .before .before .before .before .before .before .before .before .args .ws .now)) (c .before .before .before .before .before .before .before .loop .i) _ _ _ (c .before .before .before .before .before .before .before .loop .inv) _ _ (omega (arith, c .before .before .before .before .before .before .loop-test .taken)) (c .before .before .before .before .before .«record» .ensures) (c .before .before .before .is-right .ensures ∙ rw (c .before .before .before .before .page-of .ensures)) (not-false _ (c .before .before .if1 .left))), omega (arith, c .before .before .before .before .before .before .loop-test .taken), visiting-space (c .before .before .before .before .before .before .before .before .before .before .before .args .pages .now) (recordsOf (c .before .before .before .before .before .before .before .before .before .before .before .args .ws .now)) (c .before .before .before .before .before .before .before .loop .i) _ _ _ (c .before .before .before .before .before .before .before .loop .inv) _ _ (omega (arith, c .before .before .before .before .before .before .loop-test .taken)) (c .before .before .before .before .before .«record» .ensures) (c .before .before .before .is-right .ensures ∙ rw (c .before .before .before .before .page-of .ensures)) (not-false _ (c .before .before .if1 .left)), r .long, r .holds)
 
 bad-pass-requires-2 : tie.Need-bad-pass-requires-2 Inv-loop μ-loop
 bad-pass-requires-2 c κs = search needs
 
 same-length-2 : tie.Need-same-length-2 Inv-loop μ-loop
-same-length-2 c = c .before .before .before .before .before .before .before .before .before .before .loop .inv .0 .passing .seen .room ∙ sym (marks-long (c .before .before .before .before .before .before .before .before .before .before .before .before .before .before .before .args .marks .now) (c .before .before .before .before .before .before .before .before .before .before .before .before .before .before .before .pre .2))
+same-length-2 c = c .before .before .before .before .before .before .before .before .before .before .loop .inv .passing .seen .room ∙ sym (marks-long (c .before .before .before .before .before .before .before .before .before .before .before .before .before .before .args .marks .now) (c .before .before .before .before .before .before .before .before .before .before .before .before .before .before .pre .2))
 
 returns-2 : tie.Need-returns-2 Inv-loop μ-loop
-returns-2 c = visiting-differ (c .before .before .before .before .before .before .before .before .before .before .before .before .before .before .before .args .pages .now) (recordsOf (c .before .before .before .before .before .before .before .before .before .before .before .before .before .before .before .args .ws .now)) (c .before .before .before .before .before .before .before .before .before .before .loop .i) _ _ _ (c .before .before .before .before .before .before .before .before .before .before .loop .inv .0) _ _ (omega (arith, c .before .before .before .before .before .before .before .before .before .loop-test .taken)) (c .before .before .before .before .before .before .before .before .«record» .ensures) (c .before .before .before .before .before .before .is-right .ensures ∙ rw (c .before .before .before .before .before .before .before .page-of .ensures)) (not-false _ (c .before .before .before .before .before .if1 .left)) _ (c .before .before .standing-of .ensures .0) (c .before .if2 .taken) _ (c .bad-pass2 .ensures) _
+returns-2 c = visiting-differ (c .before .before .before .before .before .before .before .before .before .before .before .before .before .before .args .pages .now) (recordsOf (c .before .before .before .before .before .before .before .before .before .before .before .before .before .before .args .ws .now)) (c .before .before .before .before .before .before .before .before .before .before .loop .i) _ _ _ (c .before .before .before .before .before .before .before .before .before .before .loop .inv) _ _ (omega (arith, c .before .before .before .before .before .before .before .before .before .loop-test .taken)) (c .before .before .before .before .before .before .before .before .«record» .ensures) (c .before .before .before .before .before .before .is-right .ensures ∙ rw (c .before .before .before .before .before .before .before .page-of .ensures)) (not-false _ (c .before .before .before .before .before .if1 .left)) _ (c .before .before .standing-of .ensures .0) (c .before .if2 .taken) _ (c .bad-pass2 .ensures) _
 
 add-charge : tie.Need-add-charge Inv-loop μ-loop
-add-charge c = omega (arith, c .before .before .before .before .before .before .before .before .before .before .loop .inv .0 .passing .seen .small, c .before .before .standing-of .ensures .2)
+add-charge c = omega (arith, c .before .before .before .before .before .before .before .before .before .before .loop .inv .passing .seen .small, c .before .before .standing-of .ensures .2)
 
 slice-write-marks : tie.Need-slice-write-marks Inv-loop μ-loop
-slice-write-marks c = omega (arith, c .before .before .before .before .before .before .before .before .before .before .loop .inv .0 .passing .seen .room, visiting-backing (c .before .before .before .before .before .before .before .before .before .before .before .before .before .before .before .args .pages .now) (recordsOf (c .before .before .before .before .before .before .before .before .before .before .before .before .before .before .before .args .ws .now)) (c .before .before .before .before .before .before .before .before .before .before .loop .i) _ _ _ (c .before .before .before .before .before .before .before .before .before .before .loop .inv .0) _ _ (omega (arith, c .before .before .before .before .before .before .before .before .before .loop-test .taken)) (c .before .before .before .before .before .before .before .before .«record» .ensures) (c .before .before .before .before .before .before .is-right .ensures ∙ rw (c .before .before .before .before .before .before .before .page-of .ensures)) (not-false _ (c .before .before .before .before .before .if1 .left)))
+slice-write-marks c = omega (arith, c .before .before .before .before .before .before .before .before .before .before .loop .inv .passing .seen .room, visiting-backing (c .before .before .before .before .before .before .before .before .before .before .before .before .before .before .args .pages .now) (recordsOf (c .before .before .before .before .before .before .before .before .before .before .before .before .before .before .args .ws .now)) (c .before .before .before .before .before .before .before .before .before .before .loop .i) _ _ _ (c .before .before .before .before .before .before .before .before .before .before .loop .inv) _ _ (omega (arith, c .before .before .before .before .before .before .before .before .before .loop-test .taken)) (c .before .before .before .before .before .before .before .before .«record» .ensures) (c .before .before .before .before .before .before .is-right .ensures ∙ rw (c .before .before .before .before .before .before .before .page-of .ensures)) (not-false _ (c .before .before .before .before .before .if1 .left)))
 
 add-used : tie.Need-add-used Inv-loop μ-loop
-add-used c = omega (arith, seen-few _ _ _ _ _ (c .before .before .before .before .before .before .before .before .before .before .loop .inv .0 .passing .seen), c .before .before .before .before .before .before .before .before .before .loop-test .taken)
+add-used c = omega (arith, seen-few _ _ _ _ _ (c .before .before .before .before .before .before .before .before .before .before .loop .inv .passing .seen), c .before .before .before .before .before .before .before .before .before .loop-test .taken)
 
-add-after : tie.Need-add-after Inv-loop μ-loop
-add-after c = search needs
+add-next-used : tie.Need-add-next-used Inv-loop μ-loop
+add-next-used c = search needs
 
 next-used-requires-2 : tie.Need-next-used-requires-2 Inv-loop μ-loop
 next-used-requires-2 c κs = search needs
-
-free-to-requires-2 : tie.Need-free-to-requires-2 Inv-loop μ-loop
-free-to-requires-2 c κs = search needs
 
 loop-less : tie.Need-loop-less Inv-loop μ-loop
 loop-less c = search needs
 
 loop-again : tie.Need-loop-again Inv-loop μ-loop
-loop-again c = (visiting-on (c .before .before .before .before .before .before .before .before .before .before .before .before .before .before .before .before .before .args .pages .now) (recordsOf (c .before .before .before .before .before .before .before .before .before .before .before .before .before .before .before .before .before .args .ws .now)) (c .before .before .before .before .before .before .before .before .before .before .before .before .loop .i) _ _ _ (c .before .before .before .before .before .before .before .before .before .before .before .before .loop .inv .0) _ _ (omega (arith, c .before .before .before .before .before .before .before .before .before .before .before .loop-test .taken)) (c .before .before .before .before .before .before .before .before .before .before .«record» .ensures) (c .before .before .before .before .before .before .before .before .is-right .ensures ∙ rw (c .before .before .before .before .before .before .before .before .before .page-of .ensures)) (not-false _ (c .before .before .before .before .before .before .before .if1 .left)) _ (c .before .before .before .before .standing-of .ensures .0) (c .before .before .before .if2 .left) _ _ _ (omega arith) (c .before .before .before .before .standing-of .ensures .1) (c .before .before .before .before .standing-of .ensures .2) (c .before .before .before .before .standing-of .ensures .3) _ (c .before .next-used2 .ensures), visiting-free (c .before .before .before .before .before .before .before .before .before .before .before .before .before .before .before .before .before .args .pages .now) (recordsOf (c .before .before .before .before .before .before .before .before .before .before .before .before .before .before .before .before .before .args .ws .now)) (c .before .before .before .before .before .before .before .before .before .before .before .before .loop .i) _ _ _ (c .before .before .before .before .before .before .before .before .before .before .before .before .loop .inv .0) _ _ (omega (arith, c .before .before .before .before .before .before .before .before .before .before .before .loop-test .taken)) (c .before .before .before .before .before .before .before .before .before .before .«record» .ensures) (c .before .before .before .before .before .before .before .before .is-right .ensures ∙ rw (c .before .before .before .before .before .before .before .before .before .page-of .ensures)) (not-false _ (c .before .before .before .before .before .before .before .if1 .left)) (c .before .before .before .before .before .before .before .before .before .before .before .before .loop .free) _ (c .before .next-used2 .result) (c .free-to2 .result) (c .before .before .before .before .before .before .before .before .before .before .before .before .loop .inv .1) (omega arith) (c .before .next-used2 .ensures) (c .free-to2 .ensures .0) (c .free-to2 .ensures .1) (c .free-to2 .ensures .2))
+loop-again c = visiting-on (c .before .before .before .before .before .before .before .before .before .before .before .before .before .before .before .args .pages .now) (recordsOf (c .before .before .before .before .before .before .before .before .before .before .before .before .before .before .before .args .ws .now)) (c .before .before .before .before .before .before .before .before .before .before .before .loop .i) _ _ _ (c .before .before .before .before .before .before .before .before .before .before .before .loop .inv) _ _ (omega (arith, c .before .before .before .before .before .before .before .before .before .before .loop-test .taken)) (c .before .before .before .before .before .before .before .before .before .«record» .ensures) (c .before .before .before .before .before .before .before .is-right .ensures ∙ rw (c .before .before .before .before .before .before .before .before .page-of .ensures)) (not-false _ (c .before .before .before .before .before .before .if1 .left)) _ (c .before .before .before .standing-of .ensures .0) (c .before .before .if2 .left) _ _ _ (omega arith) (c .before .before .before .standing-of .ensures .1) (c .before .before .before .standing-of .ensures .2) (c .before .before .before .standing-of .ensures .3) _ (c .next-used2 .ensures)
 
 same-length-3 : tie.Need-same-length-3 Inv-loop μ-loop
-same-length-3 c = c .before .loop .inv .0 .passing .seen .room ∙ sym (marks-long (c .before .before .before .before .before .before .args .marks .now) (c .before .before .before .before .before .before .pre .2))
+same-length-3 c = c .before .loop .inv .passing .seen .room ∙ sym (marks-long (c .before .before .before .before .before .args .marks .now) (c .before .before .before .before .before .pre .2))
 
 returns-3 : tie.Need-returns-3 Inv-loop μ-loop
-returns-3 c = let a = c .before .before .before .before .before .before .args in visiting-end (a .pages .now) (recordsOf (a .ws .now)) (c .before .loop .i) _ _ _ (c .before .loop .inv .0) (c .before .loop .free) (c .before .loop .inv .1) (omega arith)
+returns-3 c = let a = c .before .before .before .before .before .args in visiting-end (a .pages .now) (recordsOf (a .ws .now)) (c .before .loop .i) _ _ _ (c .before .loop .inv) (omega arith)
 
 pub pass-over-spec : {M : Type 1} → statement M
 pass-over-spec =
@@ -98,7 +91,6 @@ pass-over-spec =
     Inv-loop
     μ-loop
     next-used-requires
-    free-to-requires
     loop-holds
     record-requires
     page-of-requires
@@ -115,9 +107,8 @@ pass-over-spec =
     add-charge
     slice-write-marks
     add-used
-    add-after
+    add-next-used
     next-used-requires-2
-    free-to-requires-2
     loop-less
     loop-again
     same-length-3

@@ -42,10 +42,10 @@ refusal-requires-3 : tie.Need-refusal-requires-3
 refusal-requires-3 c κs = search needs
 
 returns-3 : tie.Need-returns-3
-returns-3 c = λ e. let a = (c .before .before .before .before .before .before .before .before .before .before .before .before .before .args) in let os = objectsIn (a .h .now) in let ms = recordsOf (a .ws .now) in by-room (headIn (a .h .now) .limit) os ms (a .t) (a .zero) (a .memory) _ ((c .before .before .before .before .before .before .before .before .before .before .map-number-errno .ensures) os (page-known os (a .t .space) (a .a) e)) ((c .before .before .before .before .before .before .before .before .before .if1 .left)) _ ((c .before .before .before .before .before .before .before .before .place-in .ensures) (page-aligned os (a .t .space) (a .a) e (numbers-known (headIn (a .h .now) .limit) os ms (a .t) (a .zero) (a .memory) _ ((c .before .before .before .before .before .before .before .before .before .before .map-number-errno .ensures) os (page-known os (a .t .space) (a .a) e)) (c .before .before .before .before .before .before .before .before .before .if1 .left)))) ((c .before .before .before .before .before .before .if2 .left)) _ ((c .before .before .before .before .before .survey-of .ensures) ((c .before .before .before .before .before .before .before .before .before .before .before .before .before .pre) .4 .0) ms ((c .before .before .before .before .before .before .before .before .before .before .before .before .before .pre) .4 .1) ((c .before .before .before .before .before .before .before .before .before .before .before .before .before .pre) .2)) _ _ _ ((c .before .before .before .before .limit-of .ensures)) ((c .before .before .before .pages-touched .ensures .0)) ((c .before .before .room-errno .ensures)) _ ((c .before .if3 .taken)) ((c .refusal3 .ensures))
+returns-3 c = λ e. let a = (c .before .before .before .before .before .before .before .before .before .before .before .before .before .args) in let os = objectsIn (a .h .now) in let ms = recordsOf (a .ws .now) in by-room (headIn (a .h .now) .limit) os ms (a .t) (a .zero) (a .memory) _ ((c .before .before .before .before .before .before .before .before .before .before .map-number-errno .ensures) os (page-known os (a .t .space) (a .a) e)) ((c .before .before .before .before .before .before .before .before .before .if1 .left)) _ ((c .before .before .before .before .before .before .before .before .place-in .ensures) (page-aligned os (a .t .space) (a .a) e (numbers-known (headIn (a .h .now) .limit) os ms (a .t) (a .zero) (a .memory) _ ((c .before .before .before .before .before .before .before .before .before .before .map-number-errno .ensures) os (page-known os (a .t .space) (a .a) e)) (c .before .before .before .before .before .before .before .before .before .if1 .left)))) ((c .before .before .before .before .before .before .if2 .left)) _ ((c .before .before .before .before .before .survey-of .ensures) ((c .before .before .before .before .before .before .before .before .before .before .before .before .before .pre) .4 .0) ((c .before .before .before .before .before .before .before .before .before .before .before .before .before .pre) .4 .1) ((c .before .before .before .before .before .before .before .before .before .before .before .before .before .pre) .2)) _ _ _ ((c .before .before .before .before .limit-of .ensures)) ((c .before .before .before .pages-touched .ensures .0)) ((c .before .before .room-errno .ensures)) _ ((c .before .if3 .taken)) ((c .refusal3 .ensures))
 
 number-in-requires : tie.Need-number-in-requires
-number-in-requires c κs = let a = (c .before .before .before .before .before .before .before .before .before .before .before .before .args) in let ms = recordsOf (a .ws .now) in backing-fits ms _ ((c .before .before .before .before .survey-of .ensures) ((c .before .before .before .before .before .before .before .before .before .before .before .before .pre) .4 .0) ms ((c .before .before .before .before .before .before .before .before .before .before .before .before .pre) .4 .1) ((c .before .before .before .before .before .before .before .before .before .before .before .before .pre) .2))
+number-in-requires c κs = let a = (c .before .before .before .before .before .before .before .before .before .before .before .before .args) in let ms = recordsOf (a .ws .now) in backing-fits ms _ ((c .before .before .before .before .survey-of .ensures) ((c .before .before .before .before .before .before .before .before .before .before .before .before .pre) .4 .0) ((c .before .before .before .before .before .before .before .before .before .before .before .before .pre) .4 .1) ((c .before .before .before .before .before .before .before .before .before .before .before .before .pre) .2))
 
 founded-requires : tie.Need-founded-requires
 founded-requires c κs = search needs
@@ -54,7 +54,7 @@ put-new-requires : tie.Need-put-new-requires
 put-new-requires c κs = search needs
 
 returns-4 : tie.Need-returns-4
-returns-4 c = λ e. let a = (c .before .before .before .before .before .before .before .before .before .before .before .before .before .before .before .args) in let os = objectsIn (a .h .now) in let ms = recordsOf (a .ws .now) in by-making (headIn (a .h .now) .limit) os ms (a .t) (a .zero) (a .memory) _ ((c .before .before .before .before .before .before .before .before .before .before .before .before .map-number-errno .ensures) os (page-known os (a .t .space) (a .a) e)) ((c .before .before .before .before .before .before .before .before .before .before .before .if1 .left)) _ ((c .before .before .before .before .before .before .before .before .before .before .place-in .ensures) (page-aligned os (a .t .space) (a .a) e (numbers-known (headIn (a .h .now) .limit) os ms (a .t) (a .zero) (a .memory) _ ((c .before .before .before .before .before .before .before .before .before .before .before .before .map-number-errno .ensures) os (page-known os (a .t .space) (a .a) e)) (c .before .before .before .before .before .before .before .before .before .before .before .if1 .left)))) ((c .before .before .before .before .before .before .before .before .if2 .left)) _ ((c .before .before .before .before .before .before .before .survey-of .ensures) ((c .before .before .before .before .before .before .before .before .before .before .before .before .before .before .before .pre) .4 .0) ms ((c .before .before .before .before .before .before .before .before .before .before .before .before .before .before .before .pre) .4 .1) ((c .before .before .before .before .before .before .before .before .before .before .before .before .before .before .before .pre) .2)) _ _ _ ((c .before .before .before .before .before .before .limit-of .ensures)) ((c .before .before .before .before .before .pages-touched .ensures .0)) ((c .before .before .before .before .room-errno .ensures)) _ _ _ ((c .before .before .before .if3 .left)) ((c .before .before .number-in .ensures)) ((c .before .founded .ensures)) ((c .put-new .ensures))
+returns-4 c = λ e. let a = (c .before .before .before .before .before .before .before .before .before .before .before .before .before .before .before .args) in let os = objectsIn (a .h .now) in let ms = recordsOf (a .ws .now) in by-making (headIn (a .h .now) .limit) os ms (a .t) (a .zero) (a .memory) _ ((c .before .before .before .before .before .before .before .before .before .before .before .before .map-number-errno .ensures) os (page-known os (a .t .space) (a .a) e)) ((c .before .before .before .before .before .before .before .before .before .before .before .if1 .left)) _ ((c .before .before .before .before .before .before .before .before .before .before .place-in .ensures) (page-aligned os (a .t .space) (a .a) e (numbers-known (headIn (a .h .now) .limit) os ms (a .t) (a .zero) (a .memory) _ ((c .before .before .before .before .before .before .before .before .before .before .before .before .map-number-errno .ensures) os (page-known os (a .t .space) (a .a) e)) (c .before .before .before .before .before .before .before .before .before .before .before .if1 .left)))) ((c .before .before .before .before .before .before .before .before .if2 .left)) _ ((c .before .before .before .before .before .before .before .survey-of .ensures) ((c .before .before .before .before .before .before .before .before .before .before .before .before .before .before .before .pre) .4 .0) ((c .before .before .before .before .before .before .before .before .before .before .before .before .before .before .before .pre) .4 .1) ((c .before .before .before .before .before .before .before .before .before .before .before .before .before .before .before .pre) .2)) _ _ _ ((c .before .before .before .before .before .before .limit-of .ensures)) ((c .before .before .before .before .before .pages-touched .ensures .0)) ((c .before .before .before .before .room-errno .ensures)) _ _ _ ((c .before .before .before .if3 .left)) ((c .before .before .number-in .ensures)) ((c .before .founded .ensures)) ((c .put-new .ensures))
 
 pub decide-map-spec : {M : Type 1} → statement M
 decide-map-spec =
