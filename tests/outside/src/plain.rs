@@ -1,8 +1,8 @@
 //! What a systems programmer would write instead of the archive: plain safe Rust on the same layout, in place and without allocation. It gives the papers'
 //! answers for any table and any bytes where it checks the table before every call, and for good tables where it trusts the table. It goes by the archive's
 //! own steps, so that two programs are compared and not two algorithms: what a call looks for it finds by a binary search of the index, and the index is
-//! kept by moving its words up or down. The check is there twice: rule by rule, as one writes it first (`STRAIGHT`), and tuned for the machine until nothing
-//! more was found to gain (`TUNED`).
+//! kept by moving its words up or down. The check is there twice: rule by rule, as one writes it first (`STRAIGHT`), and with fused passes, tuned for the
+//! machine (`TUNED`).
 //!
 //! A command is decided on the table as it stands and only then applied, so that a refusal writes nothing and a preview is the decision alone.
 mod check;
