@@ -1,4 +1,6 @@
 // Multiples of an alignment, and the smallest page of a page-size bitmap.
+#![tactic(auto)]
+
 ghost use Rattle.std.specs.Prelude.{◌≡◌, ◌<◌, ◌^◌};
 ghost use Rattle.alignment.specs.Multiples.{multiple, fits, lowest_multiple};
 ghost use Rattle.alignment.specs.Pages.{smallest_page};
@@ -6,7 +8,7 @@ ghost use Rattle.alignment.specs.Pages.{smallest_page};
 const U64MAX: u64 = 0xFFFF_FFFF_FFFF_FFFF;
 
 // An address that was looked for.
-#[derive(Drop)]
+#[derive(Clone, Copy)]
 pub enum Spot {
     Nowhere,
     At(u64),

@@ -1,4 +1,5 @@
 // Runs a plan from standard input: a line for each of its commands, or `bad plan` alone.
+#![tactic(auto)]
 
 // One byte more than a plan may have is read, so that a longer one is seen.
 fn main() {

@@ -1,1 +1,2 @@
 // Document 01's bench set as one table of cases. No code: see specs/.
+#![tactic(auto)]

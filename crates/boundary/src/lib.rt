@@ -1,6 +1,8 @@
 // What a kernel links. Each entry takes any head, any slice of mapping records, any index beside them, any bytes, words and numbers, and answers; another number of records than
 // 128, or an index that is not that of the records, is -117. A refusal writes nothing, but for -90 of IOVA_RANGES. Nobody else writes the table, and one call runs at a time. The
 // words of the records are loaded, one call decides over them, head and index are written in place, and what is said of the records is stored.
+#![tactic(auto)]
+
 ghost use Rattle.rules_table.specs.Words.{head_in};
 ghost use Rattle.rules_lent.specs.Entries.{LentCall, Preview, HostCall};
 ghost use Rattle.rules_lent.specs.Explaining.{LentExplain};

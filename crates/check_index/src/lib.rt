@@ -1,5 +1,7 @@
 // The index of a table, checked in one pass over its numbers: each names a record in use, each mapping ends before the next of its space begins, and there are as many numbers
 // as records in use. So each record in use is named once.
+#![tactic(auto)]
+
 ghost use Rattle.std.specs.Prelude.{◌≡◌, true, false, suc, ◌≤◌, ◌<◌, length};
 ghost use Rattle.lists.specs.Search.{all};
 ghost use Rattle.lists.specs.Sums.{count_of};
@@ -14,7 +16,7 @@ ghost use Rattle.check_index.specs.Listed.{zeros_from, Listed};
 use rules_table::Mapping;
 
 // Whether an index is that of the records. If so: how many numbers it lists.
-#[derive(Drop)]
+#[derive(Clone, Copy)]
 pub struct Listing {
     pub good: bool,
     pub count: usize,

@@ -1,4 +1,6 @@
 // The mapping records of a table in place, checked in one pass over those in use.
+#![tactic(auto)]
+
 ghost use Rattle.std.specs.Prelude.{◌≡◌, ◌+◌, ◌-◌, ◌^◌, ◌<◌, ◌≤◌, false, length, replicate};
 ghost use Rattle.ranges.specs.Ranges.{U64MAX};
 ghost use Rattle.rules_table.specs.Charge.{mapping_pages};
@@ -12,7 +14,7 @@ ghost use Rattle.check_mappings.specs.Told.{page_of, Told};
 use rules_table::Mapping;
 
 // What one pass over the records tells: whether each keeps its own rules and the records of each backing agree. If so: how many are in use, and the pages of all backings.
-#[derive(Drop)]
+#[derive(Clone, Copy)]
 pub struct Pass {
     pub good: bool,
     pub used: usize,
@@ -20,7 +22,7 @@ pub struct Pass {
 }
 
 // A record and the first of its backing: whether they differ, the pages that the record adds to the charge, and the mark of the backing after it.
-#[derive(Drop)]
+#[derive(Clone, Copy)]
 struct Standing {
     strays: bool,
     pages: u64,

@@ -1,4 +1,6 @@
 // Whether the objects of a head of 865 words are good: each by itself and by the one object that it names, read where they lie.
+#![tactic(auto)]
+
 ghost use Rattle.std.specs.Prelude.{◌≡◌, ◌≤◌, ◌<◌, replicate};
 ghost use Rattle.lists.specs.Search.{any};
 ghost use Rattle.rules_table.specs.Records.{attached_to};
@@ -10,14 +12,14 @@ use rangelists::Found;
 use rules_table::{Attachment, Kind};
 
 // Whether the objects are good, and if so the lowest free slot.
-#[derive(Drop)]
+#[derive(Clone, Copy)]
 pub struct Pass {
     pub good: bool,
     pub free: Found,
 }
 
 // What one slot tells: whether its object is good, whether it is free, and the page that it asks of a place of the pages.
-#[derive(Drop)]
+#[derive(Clone, Copy)]
 pub struct Turn {
     pub good: bool,
     pub free: bool,

@@ -1,5 +1,7 @@
 // What the check of a table asks of its mappings and the devices' reserved ranges, read in place: no mapping shares an address with a reserved range
 // of its space. One search of the index for each reserved range.
+#![tactic(auto)]
+
 ghost use Rattle.std.specs.Prelude.{◌≡◌, ◌<◌, get_or};
 ghost use Rattle.lists.specs.Search.{any, all};
 ghost use Rattle.rangelists.specs.Listed.{reserved};

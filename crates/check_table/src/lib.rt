@@ -1,4 +1,6 @@
 // What runs before every call: whether a table is good and the index is that of its mappings. What it finds on the way is handed on, so that nobody works it out again.
+#![tactic(auto)]
+
 ghost use Rattle.std.specs.Prelude.{◌≡◌, length, replicate};
 ghost use Rattle.rules_table.specs.Words.{head_in, objects_in};
 ghost use Rattle.layout_mappings.specs.Words.{records_of};
@@ -10,7 +12,7 @@ use check_objects::Pass as Objects;
 use rangelists::Found;
 
 // Whether the table is good and the index that of its mappings. If so: the lowest free object record, what the pass over the mapping records tells, and how many numbers the index lists.
-#[derive(Drop)]
+#[derive(Clone, Copy)]
 pub struct Findings {
     pub good: bool,
     pub object: Found,

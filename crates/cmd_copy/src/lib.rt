@@ -1,4 +1,6 @@
 // What COPY decides over a good table: the numbers of the command, the source, then the place as in MAP, and no charge.
+#![tactic(auto)]
+
 ghost use Rattle.std.specs.Prelude.{true, List, ◌≡◌, ℕ, ◌<◌};
 ghost use Rattle.lists.specs.Checks.{first};
 ghost use Rattle.rules_table.specs.declared.Object.{Object};

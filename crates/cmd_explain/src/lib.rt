@@ -1,4 +1,6 @@
 // Why a MAP or a COPY is refused over a good table (L1), by the numbers of the command: check after check, as the deciders ask them.
+#![tactic(auto)]
+
 ghost use Rattle.std.specs.Prelude.{true, List, [], ◌∷◌, ◌≡◌, ℕ, ◌≤◌, ◌<◌, length};
 ghost use Rattle.lists.specs.Checks.{when, first};
 ghost use Rattle.ranges.specs.Ranges.{U64MAX};

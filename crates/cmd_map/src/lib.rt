@@ -1,4 +1,6 @@
 // What MAP decides over a good table: the numbers of the command first, then the place, then the room that the check found. COPY shares the parts of a new mapping.
+#![tactic(auto)]
+
 ghost use Rattle.std.specs.Prelude.{true, List, ◌≡◌, ℕ, ◌+◌, ◌≤◌, ◌<◌, length};
 ghost use Rattle.lists.specs.Tests.{only_if};
 ghost use Rattle.lists.specs.Checks.{first};

@@ -1,4 +1,6 @@
 // MAP, COPY and UNMAP past the gate: the fields of the command, what is decided, and the reply where it is accepted. A refusal writes no byte.
+#![tactic(auto)]
+
 ghost use Rattle.std.specs.Prelude.{true, List, ◌≡◌, ℕ, ◌+◌, ◌≤◌, ◌<◌, length};
 ghost use Rattle.lists.specs.Each.{Each};
 ghost use Rattle.wire.specs.Fields.{field};

@@ -1,4 +1,6 @@
 // What the commands on spaces decide over a good table.
+#![tactic(auto)]
+
 ghost use Rattle.std.specs.Prelude.{List, ◌≡◌, ℕ, ◌+◌, ◌-◌, ◌*◌, ◌≤◌, ◌<◌, length};
 ghost use Rattle.lists.specs.Checks.{first};
 ghost use Rattle.lists.specs.Search.{any};

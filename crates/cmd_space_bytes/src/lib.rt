@@ -1,4 +1,6 @@
 // IOAS_ALLOC, ALLOW_IOVAS and IOVA_RANGES past the gate: the fields of the command, what is decided, and the reply where there is one.
+#![tactic(auto)]
+
 ghost use Rattle.std.specs.Prelude.{List, ◌≡◌, ◌*◌, ◌%◌, ◌^◌, ◌≤◌, length};
 ghost use Rattle.rangelists.specs.Listed.{found};
 ghost use Rattle.wire.specs.Fields.{field};

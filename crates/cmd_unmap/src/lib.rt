@@ -1,4 +1,6 @@
 // What UNMAP decides over a good table. One search tells whether a mapping is cut, whether one goes, and the bytes: nothing is removed before.
+#![tactic(auto)]
+
 ghost use Rattle.std.specs.Prelude.{true, List, ◌≡◌, ℕ, ◌<◌};
 ghost use Rattle.lists.specs.Each.{Each};
 ghost use Rattle.lists.specs.Checks.{first};

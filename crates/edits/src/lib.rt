@@ -1,4 +1,6 @@
 // The edit that a call decided, applied to a table by value. Beside it a new object in the lowest free record, and a fresh table.
+#![tactic(auto)]
+
 ghost use Rattle.std.specs.Prelude.{cond, map, List, ◌≡◌, ◌<◌, ◌-◌, length};
 ghost use Rattle.rules_table.specs.Records.{free_object, new_space, zero_mapping, within, release};
 ghost use Rattle.rules_calls.specs.Edits.{refuse, accept, tells, applied, added};

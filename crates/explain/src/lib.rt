@@ -1,4 +1,6 @@
 // The tool (L1): it takes a table and a MAP or a COPY by request and bytes, and names the first failing check, those of the opening too. The table is only read.
+#![tactic(auto)]
+
 ghost use Rattle.std.specs.Prelude.{List, ◌≡◌, ℕ, length};
 ghost use Rattle.rules_table.specs.Layout.{table_of};
 ghost use Rattle.rules_table.specs.Words.{head_in, objects_in};

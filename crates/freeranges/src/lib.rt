@@ -1,4 +1,6 @@
 // What is not reserved in a space, as the fewest ascending ranges: what one list of ranges tells of an address, and how a range is written.
+#![tactic(auto)]
+
 ghost use Rattle.std.specs.Prelude.{◌≡◌, ◌*◌, ◌≤◌, length};
 ghost use Rattle.ranges.specs.Ranges.{range, holds};
 ghost use Rattle.rangelists.specs.Listed.{listed};
@@ -8,14 +10,14 @@ ghost use Rattle.freeranges.specs.Written.{put_range};
 use ranges::U64MAX;
 
 // What holds an address: nothing, or a range up to its last.
-#[derive(Drop)]
+#[derive(Clone, Copy)]
 pub enum Cover {
     Clear,
     Upto(u64),
 }
 
 // The next free range: its start and its last.
-#[derive(Drop)]
+#[derive(Clone, Copy)]
 pub enum Gap {
     Nothing,
     At(u64, u64),

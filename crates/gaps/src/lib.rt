@@ -1,4 +1,6 @@
 // The gaps of a space, by one walk over its mappings in the order of the index. The reserved ranges are asked where no mapping is in the way.
+#![tactic(auto)]
+
 ghost use Rattle.std.specs.Prelude.{◌≡◌, ◌&&◌, [], ◌∷◌, ◌+◌, ◌-◌, ◌≤◌, ◌<◌, eqb, length, get_or, take};
 ghost use Rattle.ranges.specs.Ranges.{U64MAX, last_of};
 ghost use Rattle.alignment.specs.Multiples.{spot_of};
@@ -18,7 +20,7 @@ use placement::{Search, Want};
 use ranges::Range;
 
 // Where one step of the walk leads: an address, a place in the index, and how many ranges it left behind.
-#[derive(Drop)]
+#[derive(Clone, Copy)]
 struct Step {
     spot: Spot,
     place: usize,

@@ -1,4 +1,6 @@
 // What attach decides over a good table.
+#![tactic(auto)]
+
 ghost use Rattle.std.specs.Prelude.{List, ◌≡◌, ◌<◌};
 ghost use Rattle.lists.specs.Search.{any};
 ghost use Rattle.lists.specs.Checks.{first};

@@ -1,4 +1,6 @@
 // What bind decides over a good table.
+#![tactic(auto)]
+
 ghost use Rattle.std.specs.Prelude.{List, ◌≡◌, ltb, length};
 ghost use Rattle.lists.specs.Tests.{only_if};
 ghost use Rattle.lists.specs.Checks.{first};

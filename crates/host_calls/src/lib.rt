@@ -1,5 +1,7 @@
 // The host calls, and the charge. What a call asks is an order; deciding answers a small edit, and by value the edit is applied to the table. Each takes any table: a bad one is
 // 117, and a refusal gives the table back as it was.
+#![tactic(auto)]
+
 ghost use Rattle.std.specs.Prelude.{List, ◌≡◌, ℕ, length};
 ghost use Rattle.rules_table.specs.Layout.{table_of};
 ghost use Rattle.rules_table.specs.Words.{head_in, objects_in};

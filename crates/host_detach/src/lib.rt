@@ -1,4 +1,6 @@
 // What detach decides over a good table.
+#![tactic(auto)]
+
 ghost use Rattle.std.specs.Prelude.{List, ◌≡◌};
 ghost use Rattle.lists.specs.Checks.{first};
 ghost use Rattle.rules_table.specs.Records.{object_at};

@@ -1,4 +1,6 @@
 // What a host call asks, as one order.
+#![tactic(auto)]
+
 ghost use Rattle.std.specs.Prelude.{◌≡◌};
 ghost use Rattle.rules_calls.specs.Orders.{order_for, bind_order, attach_order, detach_order, reach_order, charge_order, next_order};
 

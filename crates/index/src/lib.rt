@@ -1,1 +1,2 @@
 // The index of the mapping records: laws. No code: see specs/.
+#![tactic(auto)]

@@ -1,4 +1,6 @@
 // The next mapping of a space, by the index.
+#![tactic(auto)]
+
 ghost use Rattle.std.specs.Prelude.{◌≡◌, [], ◌-◌, ◌<◌, leb, length, get_or, take};
 ghost use Rattle.ranges.specs.Ranges.{last_of};
 ghost use Rattle.rules_calls.specs.Next.{ends_from, next_number};

@@ -1,5 +1,7 @@
 // The interface of the whole. Six operations on a table; nobody else writes it, and one call runs at a time. Each answers for any table, any bytes and any numbers, and ends.
 // What each gives back is one equation with a definition of the rules; README.md names the theorems that say what the definitions mean.
+#![tactic(auto)]
+
 ghost use Rattle.std.specs.Prelude.{◌≡◌, ◌≤◌, length};
 ghost use Rattle.rules_table.specs.Layout.{table_of};
 ghost use Rattle.rules_table.specs.Words.{head_in, objects_in};

@@ -1,4 +1,6 @@
 // Where a new mapping lands: at the address asked, or at the lowest candidate.
+#![tactic(auto)]
+
 ghost use Rattle.std.specs.Prelude.{true, false, List, ◌≡◌, ℕ, ◌*◌, ◌≤◌, ◌<◌, length};
 ghost use Rattle.lists.specs.Checks.{first};
 ghost use Rattle.lists.specs.Search.{any};
@@ -28,7 +30,7 @@ use rules_table::Mapping;
 const LOWEST_TRIED: u64 = 0;
 
 // What MAP and COPY ask of a place: so many bytes in a space, at the address where the flags say that it is fixed.
-#[derive(Drop)]
+#[derive(Clone, Copy)]
 pub struct Target {
     pub space: u32,
     pub flags: u32,
@@ -37,7 +39,7 @@ pub struct Target {
 }
 
 // The errno of the place, or 0 with the address.
-#[derive(Drop)]
+#[derive(Clone, Copy)]
 pub struct Placing {
     pub errno: u8,
     pub address: u64,

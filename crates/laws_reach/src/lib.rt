@@ -1,1 +1,2 @@
 // What reach's answers say of the table, in plain terms. No code: see specs/.
+#![tactic(auto)]

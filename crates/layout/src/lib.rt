@@ -1,5 +1,7 @@
 // The head of a table as a kernel keeps it: the limit and the object records, as numbers only. Every field is a u32 or a u64, so that whatever C left there is read as it is;
 // a kind that is none becomes a device attached to no space, which no good table has.
+#![tactic(auto)]
+
 ghost use Rattle.std.specs.Prelude.{◌≡◌};
 ghost use Rattle.rules_table.specs.Layout.{kind_of, tag_of, decoded, encoded};
 ghost use Rattle.rules_table.specs.Words.{low, high};

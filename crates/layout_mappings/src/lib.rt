@@ -1,4 +1,6 @@
 // A mapping record as five words, read and written in place.
+#![tactic(auto)]
+
 ghost use Rattle.std.specs.Prelude.{◌≡◌, [], ◌∷◌, ◌<◌, length, get_or, set};
 ghost use Rattle.rules_table.specs.Records.{used};
 ghost use Rattle.layout_mappings.specs.Words.{record_of, words_of, records_of, record_at, is_empty};

@@ -1,4 +1,6 @@
 // The object records of a head of 865 words, in place: one is read where it is judged or used, and one is written.
+#![tactic(auto)]
+
 ghost use Rattle.std.specs.Prelude.{◌≡◌, true, ◌+◌, ◌≤◌, ◌<◌, length, get_or};
 ghost use Rattle.rules_table.specs.Records.{zero_object, object_at, free_object};
 ghost use Rattle.rules_table.specs.Layout.{encoded, fresh_head};

@@ -1,5 +1,7 @@
 // A call on the head as words, the words of the mapping records and the index, which are lent. Head and index are written in place; what happens to the mapping records is
 // handed back. Another number of records than 128 is -117, and then nothing is written.
+#![tactic(auto)]
+
 ghost use Rattle.lent_core.specs.Serving.{CallServed, PreviewServed, HostServed};
 
 use index_search::Slots;

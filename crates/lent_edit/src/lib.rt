@@ -1,4 +1,6 @@
 // An edit, written: the object record of the head that it names, in place, and what happens to the mapping records, handed back with the result.
+#![tactic(auto)]
+
 ghost use Rattle.std.specs.Prelude.{◌≡◌};
 ghost use Rattle.rules_table.specs.Layout.{encoded};
 ghost use Rattle.rules_table.specs.Words.{head_in};
@@ -14,7 +16,7 @@ use rules_calls::{Change, Edit};
 use rules_table::Object;
 
 // A result, and what happens to the mapping records.
-#[derive(Drop)]
+#[derive(Clone, Copy)]
 pub struct Served {
     pub result: i32,
     pub records: Records,

@@ -1,5 +1,7 @@
 // The tool (L1) on the head as words, the words of the mapping records and the index, which are lent. Another number of records than 128 is -117. What it tells is written in five
 // words; a refusal leaves them.
+#![tactic(auto)]
+
 ghost use Rattle.std.specs.Prelude.{◌≡◌, length};
 ghost use Rattle.rules_calls.specs.Results.{signed_result};
 ghost use Rattle.rules_reasons.specs.Explain.{tool_errno, told_words};
@@ -11,7 +13,7 @@ use rules_reasons::Explained;
 // The words of what is told, and the result.
 fn tell(e: Explained, words: &mut [u64]) -> i32
     requires { (length words.old ≡ 5) × ShortTold e }
-    ensures* { λ r. ⌜ (r ≡ result (tool_errno e)) × (words.new ≡ told_words e words.old) ⌝ }
+    ensures { (result ≡ signed_result (tool_errno e)) × (words.new ≡ told_words e words.old) }
 {
     match e {
         Explained::Refused(n) => opening::signed_result(n),
@@ -32,7 +34,7 @@ pub fn explain<'a>(
     cmd: &'a [u8],
     words: &mut [u64; 5],
 ) -> i32
-    ensures* { λ r. ⌜ ExplainServed h.now count ws.old beside.now request cmd.now words.old r words.new ⌝ }
+    ensures { ExplainServed h.now count ws.old beside.now request cmd.now words.old result words.new }
 {
     if count != lent_fresh::RECORDS {
         return opening::signed_result(117);

@@ -1,4 +1,6 @@
 // A fresh table in the caller's memory: head and index are written in place, and every mapping record is released.
+#![tactic(auto)]
+
 ghost use Rattle.std.specs.Prelude.{◌≡◌, length, replicate};
 ghost use Rattle.lent_fresh.specs.Endings.{FreshServed};
 

@@ -1,4 +1,6 @@
 // What the words of a host call ask, and what it tells in them.
+#![tactic(auto)]
+
 ghost use Rattle.std.specs.Prelude.{◌≤◌, ◌≡◌, length};
 ghost use Rattle.std.proofs.Math.Option.{some};
 ghost use Rattle.rules_lent.specs.Entries.{order_in, reserved_in};

@@ -1,5 +1,7 @@
 // The mapping records in the caller's memory, behind two thin functions: their words are read whole, and only the records that a call changes are written, in place. Both take
 // a slice of any length.
+#![tactic(auto)]
+
 ghost use Rattle.std.specs.Prelude.{◌≡◌, length};
 ghost use Rattle.lent_records.specs.Loading.{bound_of, Loaded};
 ghost use Rattle.lent_records.specs.Records.{changes, becomes, stored, turns_of, first_of};
@@ -8,7 +10,7 @@ use ranges::Range;
 use rules_table::Mapping;
 
 // What happens to the mapping records.
-#[derive(Drop)]
+#[derive(Clone, Copy)]
 pub enum Records {
     Keep,
     // The record at a place becomes this mapping.

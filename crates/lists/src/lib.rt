@@ -1,1 +1,2 @@
 // Laws on lists, sums and tests. No code: see specs/.
+#![tactic(auto)]

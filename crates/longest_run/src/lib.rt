@@ -1,4 +1,6 @@
 // The longest free run of a space, over the table as it lies in memory: no list of what is blocked is made. Each start that a longest run can have is tried.
+#![tactic(auto)]
+
 ghost use Rattle.std.specs.Prelude.{◌≡◌, ◌+◌, ◌<◌, length, get_or};
 ghost use Rattle.ranges.specs.Ranges.{U64MAX};
 ghost use Rattle.rangelists.specs.Listed.{allowed};

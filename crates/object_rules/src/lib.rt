@@ -1,4 +1,6 @@
 // One object by the rules of its kind, judged where it lies: of a head of 865 words only those are read that a rule asks for.
+#![tactic(auto)]
+
 ghost use Rattle.std.specs.Prelude.{◌≡◌, ◌++◌, ◌<◌, length, drop, get_or};
 ghost use Rattle.wire.specs.Fields.{zeros};
 ghost use Rattle.rangelists.specs.Listed.{reserved, allowed};

@@ -1,4 +1,6 @@
 // Opening a command: the request table, the size field, the unknown tail. Then the flags of MAP and COPY, and the signed result of a call.
+#![tactic(auto)]
+
 ghost use Rattle.std.specs.Prelude.{◌≡◌, ◌≤◌, pos, length};
 ghost use Rattle.rules_calls.specs.Requests.{lookup};
 ghost use Rattle.rules_calls.specs.Opening.{tail, open_row, opened, opening_errno};
@@ -9,7 +11,7 @@ use rules_calls::{Command, Opening, Row};
 
 // The table of requests.
 pub fn look_up(request: u32) -> Row
-    ensures* { λ r. ⌜ r ≡ lookup request ⌝ }
+    ensures { result ≡ lookup request }
 {
     match request {
         0x3B80 => Row::Listed(Command::Destroy, 8),
@@ -26,14 +28,14 @@ pub fn look_up(request: u32) -> Row
 // The bytes beyond the known size, up to the size field: a part of the caller's own buffer.
 pub fn unknown_tail<'a>(cmd: &'a [u8], known: usize, size: usize) -> &'a [u8]
     requires { (known ≤ size) × (size ≤ length cmd.now) }
-    ensures* { λ r. ⌜ r.now ≡ tail known size cmd.now ⌝ }
+    ensures { result.now ≡ tail known size cmd.now }
 {
     &cmd[known..size]
 }
 
 // The checks of a listed request, in order.
 fn open_row(command: Command, known: usize, cmd: &[u8]) -> Opening
-    ensures* { λ r. ⌜ r ≡ open_row (Row.Listed command known) cmd.now ⌝ }
+    ensures { result ≡ open_row (Row.Listed command known) cmd.now }
 {
     if cmd.len() < 4 {
         return Opening::NoSizeField;
@@ -53,7 +55,7 @@ fn open_row(command: Command, known: usize, cmd: &[u8]) -> Opening
 
 // Opens a command, after the table check.
 pub fn open(request: u32, cmd: &[u8]) -> Opening
-    ensures* { λ r. ⌜ r ≡ opened request cmd.now ⌝ }
+    ensures { result ≡ opened request cmd.now }
 {
     let row = look_up(request);
     let Row::Listed(command, known) = row else {
@@ -63,7 +65,7 @@ pub fn open(request: u32, cmd: &[u8]) -> Opening
 }
 
 pub fn opening_errno(o: Opening) -> u8
-    ensures* { λ r. ⌜ r ≡ opening_errno o ⌝ }
+    ensures { result ≡ opening_errno o }
 {
     match o {
         Opening::UnknownRequest => 25,
@@ -77,40 +79,40 @@ pub fn opening_errno(o: Opening) -> u8
 
 // Flags of MAP and COPY: bit 0 fixed address, bit 1 writeable, bit 2 readable.
 pub fn is_fixed(flags: u32) -> bool
-    ensures* { λ b. ⌜ b ≡ bit 0 flags ⌝ }
+    ensures { result ≡ bit 0 flags }
 {
     flags & 1 == 1
 }
 
 pub fn is_writeable(flags: u32) -> bool
-    ensures* { λ b. ⌜ b ≡ bit 1 flags ⌝ }
+    ensures { result ≡ bit 1 flags }
 {
     (flags >> 1) & 1 == 1
 }
 
 pub fn is_readable(flags: u32) -> bool
-    ensures* { λ b. ⌜ b ≡ bit 2 flags ⌝ }
+    ensures { result ≡ bit 2 flags }
 {
     (flags >> 2) & 1 == 1
 }
 
 // Whether a bit above bit 2 is set.
 pub fn has_unknown(flags: u32) -> bool
-    ensures* { λ b. ⌜ b ≡ unknown 3 flags ⌝ }
+    ensures { result ≡ unknown 3 flags }
 {
     flags & 0xFFFF_FFF8 != 0
 }
 
 // The signed result of a call: 0, or the negative of the errno. An errno is a u8, so that its negative always fits.
 pub fn signed_result(errno: u8) -> i32
-    ensures* { λ r. ⌜ r ≡ result errno ⌝ }
+    ensures { result ≡ signed_result errno }
 {
     -(errno as i32)
 }
 
 // Bind's result: the new id.
 pub fn id_result(id: u8) -> i32
-    ensures* { λ r. ⌜ r ≡ pos id ⌝ }
+    ensures { result ≡ pos id }
 {
     id as i32
 }

@@ -1,4 +1,6 @@
 // Where an automatic mapping goes: the lowest candidate. The search stands at a place and jumps past every range that it touches there.
+#![tactic(auto)]
+
 ghost use Rattle.std.specs.Prelude.{◌≡◌, ◌-◌, ◌≤◌, length};
 ghost use Rattle.rangelists.specs.Listed.{listed};
 ghost use Rattle.placement.specs.Jumps.{past_of, jumps_to, Swept, room_at, lower_of};
@@ -7,7 +9,7 @@ use alignment::Spot;
 use ranges::{Range, U64MAX};
 
 // What is looked for: so many bytes from a multiple of the alignment on, at low or above it.
-#[derive(Drop)]
+#[derive(Clone, Copy)]
 pub struct Want {
     pub alignment: u64,
     pub length: u64,
@@ -15,7 +17,7 @@ pub struct Want {
 }
 
 // Where a search ended, and how often it jumped.
-#[derive(Drop)]
+#[derive(Clone, Copy)]
 pub struct Search {
     pub spot: Spot,
     pub jumps: usize,

@@ -1,4 +1,6 @@
 // The bench program's plan: its bytes judged, its setup done, its commands run one by one. What a plan's bytes mean stands in plan_shape/specs/Plan.antt.
+#![tactic(auto)]
+
 ghost use Rattle.std.specs.Prelude.{◌≡◌, nat_abs};
 ghost use Rattle.plan.specs.Running.{bad_plan, ready_of};
 
@@ -10,7 +12,7 @@ mod whole;
 pub use whole::run;
 
 // A plan that was judged: where its commands stand, how many they are, and the table after the setup.
-#[derive(Drop)]
+#[derive(Clone, Copy)]
 pub struct Ready {
     pub good: bool,
     pub at: usize,
@@ -19,7 +21,7 @@ pub struct Ready {
 }
 
 // How a run ended: a bad plan, or a good one with so many lines.
-#[derive(Drop)]
+#[derive(Clone, Copy)]
 pub struct Outcome {
     pub good: bool,
     pub count: usize,

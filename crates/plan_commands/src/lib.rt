@@ -1,4 +1,6 @@
 // One command of a plan: its bytes copied out, since a command changes them, then the door, then the charge.
+#![tactic(auto)]
+
 ghost use Rattle.std.specs.Prelude.{◌≡◌, ◌+◌, ◌≤◌, length};
 ghost use Rattle.wire.specs.Fields.{field};
 ghost use Rattle.rules_calls.specs.Call.{call_done};
@@ -12,7 +14,7 @@ mod charging;
 use charging::charge_of;
 
 // What a command leaves: the numbers of its line, the place of the next command, the table.
-#[derive(Drop)]
+#[derive(Clone, Copy)]
 pub struct Ran {
     pub request: u32,
     pub result: i32,
@@ -33,8 +35,8 @@ fn call_on(
     requires { (length cmd.old ≡ length bytes.now) × (length area.old ≡ length ranges.now) }
     ensures { result ≡ (call_done t request bytes.now ranges.now).answer }
 {
-    bytes::copy(bytes, cmd);
-    bytes::copy(ranges, area);
+    cmd.copy_from_slice(bytes);
+    area.copy_from_slice(ranges);
     iommufd::call(t, request, cmd, area)
 }
 

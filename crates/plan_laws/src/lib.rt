@@ -1,1 +1,2 @@
 // A plan as a sequence of calls, and demand 3 of the table that its run leaves. No code: see specs/.
+#![tactic(auto)]

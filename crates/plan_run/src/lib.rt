@@ -1,10 +1,14 @@
 // The bench runner: a plan's lines on standard output, or `bad plan` alone. The whole plan is run before anything is printed.
+#![tactic(auto)]
+
 ghost use Rattle.std.specs.Prelude.{◌≤◌, length};
 ghost use Rattle.plan_run.specs.Shown.{Shows};
 
-use libc::STDOUT_FILENO;
 use plan::Outcome;
 use program_lines::{number, text};
+
+// The number of standard output.
+const STDOUT_FILENO: i32 = 1;
 
 // Runs a plan: the numbers of its lines, and demand 3 of it. The buffers have room for any plan.
 pub fn run(

@@ -1,4 +1,6 @@
 // The setup of a plan, call by call: spaces, devices, attachments. Each loop stops at the first call that is refused.
+#![tactic(auto)]
+
 ghost use Rattle.std.specs.Prelude.{◌≡◌, ◌+◌, ◌*◌, ◌≤◌, length};
 ghost use Rattle.wire.specs.Fields.{field};
 ghost use Rattle.rules_calls.specs.Allow.{column};
@@ -11,7 +13,7 @@ use rules_calls::Answer;
 use rules_table::Table;
 
 // A table on the way through the setup. After a refusal nothing more is done to it.
-#[derive(Drop)]
+#[derive(Clone, Copy)]
 pub struct Setup {
     pub refused: bool,
     pub table: Table,

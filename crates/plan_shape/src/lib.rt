@@ -1,9 +1,11 @@
 // Where the items and the sections of a plan end. An end past the last byte is given as one past the length, so that no sum is large.
+#![tactic(auto)]
+
 ghost use Rattle.std.specs.Prelude.{◌≡◌, ◌+◌, ◌≤◌, min, length};
 ghost use Rattle.plan_shape.specs.Plan.{item_end, device_end, command_end, section_end};
 
 // The sections whose items have bytes.
-#[derive(Drop)]
+#[derive(Clone, Copy)]
 pub enum Section {
     Devices,
     Attachments,

@@ -1,5 +1,7 @@
 // Short lists of ranges by value, each as an array of starts, an array of lasts and a count: a device's reserved ranges and an allow list.
 // One loop over slices serves both lengths.
+#![tactic(auto)]
+
 ghost use Rattle.std.specs.Prelude.{◌≡◌, ◌+◌, ◌≤◌, ◌<◌, min, length};
 ghost use Rattle.ranges.specs.Ranges.{range};
 ghost use Rattle.rangelists.specs.Listed.{listed, reserved, allowed, is_found, touched_from, first_touched, valid, overlap};
@@ -7,7 +9,7 @@ ghost use Rattle.rangelists.specs.Listed.{listed, reserved, allowed, is_found, t
 use ranges::Range;
 
 // The reserved ranges of a device. Places from count on are not in use.
-#[derive(Drop)]
+#[derive(Clone, Copy)]
 pub struct Reserved {
     pub count: u32,
     pub starts: [u64; 4],
@@ -15,7 +17,7 @@ pub struct Reserved {
 }
 
 // An allow list, in the order given. Places from count on are not in use.
-#[derive(Drop)]
+#[derive(Clone, Copy)]
 pub struct Allowed {
     pub count: u32,
     pub starts: [u64; 8],
@@ -23,7 +25,7 @@ pub struct Allowed {
 }
 
 // A place in a list.
-#[derive(Drop)]
+#[derive(Clone, Copy)]
 pub enum Found {
     Nothing,
     At(usize),

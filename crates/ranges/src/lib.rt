@@ -1,5 +1,7 @@
 // Intervals with an inclusive last address over u64, and the pages that a run of bytes touches.
 // Every test is total: no sum that can wrap is computed, so a broken table needs no case of its own.
+#![tactic(auto)]
+
 ghost use Rattle.std.specs.Prelude.{◌≡◌, ◌≤◌, ◌^◌, min, max};
 ghost use Rattle.ranges.specs.Ranges.{share, inside, passes, last_of, span};
 ghost use Rattle.ranges.specs.Pages.{pages_touched};
@@ -7,7 +9,7 @@ ghost use Rattle.ranges.specs.Pages.{pages_touched};
 pub const U64MAX: u64 = 0xFFFF_FFFF_FFFF_FFFF;
 
 // From start to last, both included. A start above its last holds no address.
-#[derive(Drop)]
+#[derive(Clone, Copy)]
 pub struct Range {
     pub start: u64,
     pub last: u64,

@@ -1,4 +1,6 @@
 // Why a place is refused (L1): the first check of a fixed address or of an automatic one that fails, with the lowest object or mapping record that is touched, or the longest free run.
+#![tactic(auto)]
+
 ghost use Rattle.std.specs.Prelude.{true, false, ◌≡◌, ◌≤◌, ◌<◌, length};
 ghost use Rattle.ranges.specs.Ranges.{U64MAX};
 ghost use Rattle.rules_table.specs.Flags.{bit};

@@ -1,4 +1,6 @@
 // A reason in five words (L1): its code, its errno, the object or the mapping record that it names, and start and length of its run.
+#![tactic(auto)]
+
 ghost use Rattle.std.specs.Prelude.{◌≡◌, eqb, length, get_or};
 ghost use Rattle.runs.specs.declared.Run.TheVariants.{Nothing};
 ghost use Rattle.rules_reasons.specs.Explain.{reason_code, run_words, reason_words};
@@ -8,7 +10,7 @@ use rules_reasons::Reason;
 use runs::Run;
 
 // What a reason tells: the object or the mapping record is 0 where it names none.
-#[derive(Drop)]
+#[derive(Clone, Copy)]
 pub struct Parts {
     pub code: u8,
     pub errno: u8,

@@ -1,4 +1,6 @@
 // Small tests of mapping records, for the check of a table and for the searches.
+#![tactic(auto)]
+
 ghost use Rattle.std.specs.Prelude.{◌≡◌, ◌≤◌};
 ghost use Rattle.ranges.specs.Ranges.{range};
 ghost use Rattle.rules_table.specs.Records.{touches};

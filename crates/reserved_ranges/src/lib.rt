@@ -1,4 +1,6 @@
 // The reserved ranges of one space, read in place: those of each attached device in turn.
+#![tactic(auto)]
+
 ghost use Rattle.std.specs.Prelude.{◌≡◌, ◌*◌, ◌≤◌, ◌<◌, length, get_or, take};
 ghost use Rattle.lists.specs.Search.{any};
 ghost use Rattle.ranges.specs.Ranges.{share};

@@ -1,1 +1,2 @@
 // What stands beside the table: definitions. No code: see specs/.
+#![tactic(auto)]

@@ -1,8 +1,10 @@
 // The declared types of these rules. What they mean stands in specs/.
+#![tactic(auto)]
+
 use runs::Run;
 
 // What stood in the way of a MAP or a COPY: a case for each check.
-#[derive(Drop)]
+#[derive(Clone, Copy)]
 pub enum Reason {
     Accepted,
     NoSizeField,
@@ -32,7 +34,7 @@ pub enum Reason {
 }
 
 // What the tool answers: an errno of its own, or what stood in the way.
-#[derive(Drop)]
+#[derive(Clone, Copy)]
 pub enum Explained {
     Refused(u8),
     Told(Reason),

@@ -1,4 +1,6 @@
 // Runs of free addresses, and the better of two.
+#![tactic(auto)]
+
 ghost use Rattle.std.specs.Prelude.{◌≡◌, ◌≤◌, length};
 ghost use Rattle.rangelists.specs.Listed.{listed};
 ghost use Rattle.runs.specs.Runs.{ahead, better, cut_at, free_to};
@@ -7,7 +9,7 @@ use alignment::Spot;
 use ranges::Range;
 
 // A run of addresses: its start, and one less than its length, so that all 2^64 addresses are a run too.
-#[derive(Drop)]
+#[derive(Clone, Copy)]
 pub enum Run {
     Nothing,
     Of(u64, u64),

@@ -1,4 +1,6 @@
 // What MAP and COPY ask of the mapping records for a new one: a released record and a backing number.
+#![tactic(auto)]
+
 ghost use Rattle.std.specs.Prelude.{◌≡◌, true, List, ℕ, eqb, length, get_or};
 ghost use Rattle.std.proofs.Math.Option;
 ghost use Rattle.lists.specs.Below.{lowest};
@@ -12,7 +14,7 @@ use check_mappings::Pass;
 use rangelists::Found;
 
 // For MAP and COPY: the lowest released slot, the lowest backing number that is not in use, and the charge.
-#[derive(Drop)]
+#[derive(Clone, Copy)]
 pub struct Survey {
     pub free: Found,
     pub backing: Found,

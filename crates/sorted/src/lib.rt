@@ -1,1 +1,2 @@
 // Lists in order: laws. No code: see specs/.
+#![tactic(auto)]

@@ -1,4 +1,6 @@
 // Small tests of a kind, of a mapping and of lists of ranges. The records, and what a good table is, stand in rules_table; specs/ has its laws.
+#![tactic(auto)]
+
 ghost use Rattle.std.specs.Prelude.{◌≡◌, ◌≤◌, length};
 ghost use Rattle.rangelists.specs.Listed.{listed, reserved, allowed};
 ghost use Rattle.rules_table.specs.Records.{is_free, is_space, is_device, is_attached, attached_to, home_of, touches, within, can_write, can_read};

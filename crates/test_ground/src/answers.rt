@@ -1,10 +1,12 @@
 // One line for each record, by its operation.
 use alignment::Spot;
-use libc::STDOUT_FILENO;
 use program_lines::{hex, number, text, truth, word};
 use rangelists::{Allowed, Found, Reserved};
 use ranges::Range;
 use rules_calls::Opening;
+
+// The number of standard output.
+const STDOUT_FILENO: i32 = 1;
 
 pub fn answer(operation: u32, body: &[u8]) {
     match operation {

@@ -1,5 +1,7 @@
 // Answers for a stored list of boundary inputs, a line each. tests/vectors.py makes the list and works out the lines on its own.
 // A record is a u32 operation, a u32 count of bytes and so many bytes. Most bodies are u64 numbers.
+#![tactic(auto)]
+
 mod answers;
 
 fn main() {

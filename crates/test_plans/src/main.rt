@@ -1,9 +1,13 @@
 // Runs the plans of one standard input, each after the number of its bytes as a u32: `plan N`, then what the bench program shows. tests/benchplans.py makes the plans and the
 // lines on its own.
+#![tactic(auto)]
+
 ghost use Rattle.std.specs.Prelude.{◌≤◌, length};
 
-use libc::STDOUT_FILENO;
 use program_lines::text;
+
+// The number of standard output.
+const STDOUT_FILENO: i32 = 1;
 
 fn main() {
     let mut input = [0u8; 262144];

@@ -1,5 +1,7 @@
 // Replays a stored list of calls and edits on one table, a line each. The scripts in tests/ make the lists and work out the lines on their own.
 // A record is a u32 operation, a u32 count of bytes and so many bytes.
+#![tactic(auto)]
+
 mod calls;
 mod reading;
 mod reasons;

@@ -1,7 +1,9 @@
 // The parts of a line that only the calls have: results, bytes in brackets, and what is said of the table at its end.
-use libc::STDOUT_FILENO;
 use program_lines::{hex, text, truth, wide};
 use rules_table::Table;
+
+// The number of standard output.
+const STDOUT_FILENO: i32 = 1;
 
 // A signed result, by its sign and its size.
 pub fn result(r: i32) {

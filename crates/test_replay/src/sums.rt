@@ -3,7 +3,7 @@ use rangelists::{Allowed, Reserved};
 use rules_table::{Attachment, Kind, Mapping, Object, Table};
 
 // The sum of the numbers so far, from 1, and the sum of those sums: both modulo 2^32 - 5, a prime.
-#[derive(Drop)]
+#[derive(Clone, Copy)]
 pub struct Sums {
     pub plain: u64,
     pub ordered: u64,

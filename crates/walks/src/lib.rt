@@ -1,1 +1,2 @@
 // What the walks of other crates share. No code: see specs/.
+#![tactic(auto)]

@@ -1,4 +1,6 @@
 // Little-endian numbers in a lent slice of bytes.
+#![tactic(auto)]
+
 ghost use Rattle.std.specs.Prelude.{◌≡◌, ◌+◌, ◌≤◌, ◌<◌, length};
 ghost use Rattle.wire.specs.Fields.{field, put, zeros};
 
