@@ -1,0 +1,41 @@
+-- No candidate lies below the address reached.
+use native.Mathlib.Omega.{arith}
+use lib.ListN.{take}
+use Rattle.rules_index.specs.Index.{view}
+use Rattle.layout_mappings.specs.Words.{records_of}
+use Rattle.rules_table.specs.Words.{objects_in}
+use Rattle.rules_table.specs.Records.{of_space}
+use Rattle.lists.specs.Sums.{count_of-length}
+use Rattle.layout_objects.specs.Slots.{objects-long}
+use Rattle.reserved_ranges.specs.Gathered.{reserved_of-most}
+use Rattle.index_search.specs.Indexed.{indexed-length}
+use Rattle.gaps.proofs.Meeting.{still-address, still-place, moved}
+use Rattle.gaps.proofs.Walking.{room_fits, walk_none, walk_start, walk_full, walk_sum, walk_never, walk_on, walk_found, walk_less}
+use Rattle.gaps.proofs.gap_in.Goals as goal
+
+pub returns-in_default : goal.returns-in_default
+returns-in_default c = walk_none c.args.w.alignment c.args.w.length c.args.w.low c.args.s (objects_in c.args.h.now) c.args.window c.args.n c.args.ix.now (records_of c.args.ws.now) c.requires c.higher.result c.lowest_multiple-first.result (omega arith) c.higher.ensures c.lowest_multiple-first.ensures c.in_default.is
+
+pub loop-w-init : goal.loop-w-init
+loop-w-init c = walk_start c.args.w.alignment c.args.w.length c.args.w.low c.args.s (objects_in c.args.h.now) c.args.window c.args.n c.args.ix.now (records_of c.args.ws.now) c.requires c.higher.result c.lowest_multiple-first.result (omega arith) c.higher.ensures c.lowest_multiple-first.ensures c.in-At.start c.entry_of-k.result c.in-At.is c.entry_of-k.ensures
+
+pub returns-then-not-has_room : goal.returns-then-not-has_room
+returns-then-not-has_room c = let l = c.loop-w in walk_full c.args.w.alignment c.args.w.length c.args.w.low c.args.s (objects_in c.args.h.now) c.args.window c.args.n c.args.ix.now (records_of c.args.ws.now) c.requires l.x l.k l.jumps l.invariant c.has_room.result c.has_room.ensures c.if-not-has_room.true-raw
+
+pub go_on-r-requires : goal.go_on-r-requires
+go_on-r-requires c = (c.requires, room_fits c.args.w.length c.loop-w.x c.args.window c.has_room.result c.has_room.ensures c.if-not-has_room.false-raw)
+
+pub overflow_add-jumps : goal.overflow_add-jumps
+overflow_add-jumps c = let l = c.loop-w in omega (arith, walk_sum c.args.w.alignment c.args.w.length c.args.w.low c.args.s (objects_in c.args.h.now) c.args.window c.args.n c.args.ix.now (records_of c.args.ws.now) c.requires l.x l.k l.jumps l.invariant c.go_on-r.result.spot c.go_on-r.result.place c.go_on-r.result.jumps c.go_on-r.ensures, count_of-length (of_space c.args.s) (view (take c.args.n c.args.ix.now) (records_of c.args.ws.now)), indexed-length c.args.n c.args.ix.now c.args.ws.now c.requires, c.requires.most, reserved_of-most (objects_in c.args.h.now) c.args.s, objects-long c.args.h.now)
+
+pub returns-in_default-spot : goal.returns-in_default-spot
+returns-in_default-spot c = let l = c.loop-w in walk_never c.args.w.alignment c.args.w.length c.args.w.low c.args.s (objects_in c.args.h.now) c.args.window c.args.n c.args.ix.now (records_of c.args.ws.now) c.requires l.x l.k l.jumps l.invariant c.go_on-r.result.spot c.go_on-r.result.place c.go_on-r.result.jumps c.go_on-r.ensures c.in_default-spot.is
+
+pub returns-then-is_still : goal.returns-then-is_still
+returns-then-is_still c = let l = c.loop-w in walk_found c.args.w.alignment c.args.w.length c.args.w.low c.args.s (objects_in c.args.h.now) c.args.window c.args.n c.args.ix.now (records_of c.args.ws.now) c.requires l.x l.k l.jumps l.invariant c.go_on-r.result.spot c.go_on-r.result.place c.go_on-r.result.jumps c.go_on-r.ensures c.in-At-spot.y c.in-At-spot.is c.has_room.result c.has_room.ensures c.if-not-has_room.false-raw (still-address c.in-At-spot.y l.x c.go_on-r.result.place l.k c.is_still.result c.is_still.ensures c.if-is_still.true) (still-place c.in-At-spot.y l.x c.go_on-r.result.place l.k c.is_still.result c.is_still.ensures c.if-is_still.true)
+
+pub loop-w-smaller : goal.loop-w-smaller
+loop-w-smaller c = let l = c.loop-w in walk_less c.args.w.alignment c.args.w.length c.args.w.low c.args.s (objects_in c.args.h.now) c.args.window c.args.n c.args.ix.now (records_of c.args.ws.now) c.requires l.x l.k l.jumps l.invariant c.go_on-r.result.spot c.go_on-r.result.place c.go_on-r.result.jumps c.go_on-r.ensures c.in-At-spot.y c.in-At-spot.is (moved c.in-At-spot.y l.x c.go_on-r.result.place l.k c.is_still.result c.is_still.ensures c.if-is_still.false)
+
+pub loop-w-preserved : goal.loop-w-preserved
+loop-w-preserved c = let l = c.loop-w in walk_on c.args.w.alignment c.args.w.length c.args.w.low c.args.s (objects_in c.args.h.now) c.args.window c.args.n c.args.ix.now (records_of c.args.ws.now) c.requires l.x l.k l.jumps l.invariant c.go_on-r.result.spot c.go_on-r.result.place c.go_on-r.result.jumps c.go_on-r.ensures c.in-At-spot.y c.in-At-spot.is

@@ -1,0 +1,13 @@
+use Prim.Native.Nat.{◌+◌, ◌-◌}
+use lib.ListN.{take}
+use Rattle.rules_index.specs.Index.{view}
+use Rattle.layout_mappings.specs.Words.{records_of}
+use Rattle.rules_table.specs.Words.{objects_in}
+use Rattle.gaps.proofs.Walking.{Walk}
+use Rattle.gaps.proofs.gap_in.Given as goal
+
+abbrev pub invariant-loop-w : goal.invariant-loop-w
+invariant-loop-w l = Walk l.w.alignment l.w.length l.w.low l.s (objects_in l.h) (view (take l.n l.ix) (records_of l.ws)) l.window l.x l.k l.jumps
+
+abbrev pub decreases-loop-w : goal.decreases-loop-w
+decreases-loop-w l = (l.n - l.k) + (0x1_0000_0000_0000_0000 - l.x)

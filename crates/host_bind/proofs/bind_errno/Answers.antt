@@ -1,0 +1,12 @@
+-- The checks in order.
+use mathlib.Core.Path.{refl, ap, ◌∙◌}
+use mathlib.Core.Bool.{Bool, not, ◌||◌}
+use Prim.Native.Nat.{ℕ}
+use lib.Dec.{eqb, ltb}
+use Rattle.edits.specs.Settled.{checked, checked-last}
+use Rattle.rules_table.specs.Fits.{bind_checks}
+use Rattle.host_bind.proofs.bind_errno.Goals as goal
+
+pub returns : goal.returns
+unfolding bind_checks
+returns c = checked _ _ _ _ _ _ _ c.refuse_if-3.ensures (c.either-wrong.ensures ∙ ap (λ (p : ℕ). eqb c.args.bitmap 0 || ltb 4096 p) c.smallest_page-page.ensures) (checked _ _ _ _ _ _ _ c.refuse_if-2.ensures (refl) (checked-last _ _ _ _ _ c.refuse_if.ensures (ap (λ (b : Bool). not b) c.reserved_valid-ordered.ensures)))

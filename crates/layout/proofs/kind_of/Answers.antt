@@ -1,0 +1,21 @@
+-- Kind by kind.
+use borrow.Author.Tests.{eq-eqb, ne_eqb}
+use Rattle.layout.proofs.kind_of.Goals as goal
+
+pub returns-then-kind-eq3 : goal.returns-then-kind-eq3
+returns-then-kind-eq3 c = rw (eq-eqb _ _ c.if-kind-eq3.true)
+
+pub returns-then-home-ne0 : goal.returns-then-home-ne0
+returns-then-home-ne0 c = rw (ne_eqb _ _ c.if-kind-eq3.false, ne_eqb _ _ c.if-home-ne0.true)
+
+pub returns-then-kind-eq0 : goal.returns-then-kind-eq0
+returns-then-kind-eq0 c = rw (ne_eqb _ _ c.if-kind-eq3.false, eq-eqb _ _ c.if-home-ne0.false, eq-eqb _ _ c.if-kind-eq0.true)
+
+pub returns-then-kind-eq1 : goal.returns-then-kind-eq1
+returns-then-kind-eq1 c = rw (ne_eqb _ _ c.if-kind-eq3.false, eq-eqb _ _ c.if-home-ne0.false, ne_eqb _ _ c.if-kind-eq0.false, eq-eqb _ _ c.if-kind-eq1.true)
+
+pub returns-then-kind-eq2 : goal.returns-then-kind-eq2
+returns-then-kind-eq2 c = rw (ne_eqb _ _ c.if-kind-eq3.false, eq-eqb _ _ c.if-home-ne0.false, ne_eqb _ _ c.if-kind-eq0.false, ne_eqb _ _ c.if-kind-eq1.false, eq-eqb _ _ c.if-kind-eq2.true)
+
+pub returns : goal.returns
+returns c = rw (ne_eqb _ _ c.if-kind-eq3.false, eq-eqb _ _ c.if-home-ne0.false, ne_eqb _ _ c.if-kind-eq0.false, ne_eqb _ _ c.if-kind-eq1.false, ne_eqb _ _ c.if-kind-eq2.false)
