@@ -11,13 +11,13 @@ pub loop-left-init : goal.loop-left-init
 loop-left-init c = (search rules, refl)
 
 pub add_device-d-requires : goal.add_device-d-requires
-add_device-d-requires c = let l = c.loop-left in device-room _ _ (item_room Devices _ l.false l.at l.invariant.0 (omega arith))
+add_device-d-requires c = let l = c.loop-left in device-room _ _ (item_room Devices _ l.left l.at l.invariant.0 (omega arith))
 
 pub returns-then-d : goal.returns-then-d
-returns-then-d c = let l = c.loop-left in turn-stops _ _ (devices-turn l.false _ l.at l.t (omega arith)) l.invariant.1 c.add_device-d.ensures c.if-d.true
+returns-then-d c = let l = c.loop-left in turn-stops _ _ (devices-turn l.left _ l.at l.t (omega arith)) l.invariant.1 c.add_device-d.ensures c.if-d.true
 
 pub loop-left-preserved : goal.loop-left-preserved
-loop-left-preserved c = let l = c.loop-left in (items_room Devices _ l.false l.at l.invariant.0 (omega arith) _ c.item_end-at.ensures, devices-go l.false _ l.at _ l.t l.invariant.1 (omega arith) c.add_device-d.ensures c.if-d.false (item_next Devices _ l.false l.at l.invariant.0 (omega arith) _ c.item_end-at.ensures))
+loop-left-preserved c = let l = c.loop-left in (items_room Devices _ l.left l.at l.invariant.0 (omega arith) _ c.item_end-at.ensures, devices-go l.left _ l.at _ l.t l.invariant.1 (omega arith) c.add_device-d.ensures c.if-d.false (item_next Devices _ l.left l.at l.invariant.0 (omega arith) _ c.item_end-at.ensures))
 
 pub returns : goal.returns
-returns c = let l = c.loop-left in sym (devices-none l.false _ l.at l.t (omega arith)) ∙ l.invariant.1
+returns c = let l = c.loop-left in sym (devices-none l.left _ l.at l.t (omega arith)) ∙ l.invariant.1

@@ -10,10 +10,10 @@ pub loop-left-init : goal.loop-left-init
 loop-left-init c = (omega arith, section_start _ _ _ _ _ c.read32-left.ensures (omega arith))
 
 pub returns-then-s-end : goal.returns-then-s-end
-returns-then-s-end c = let l = c.loop-left in items_cut _ _ l.false l.end l.invariant.1 _ (omega arith) c.item_end-end.ensures (omega arith)
+returns-then-s-end c = let l = c.loop-left in items_cut _ _ l.left l.end l.invariant.1 _ (omega arith) c.item_end-end.ensures (omega arith)
 
 pub loop-left-preserved : goal.loop-left-preserved
-loop-left-preserved c = let l = c.loop-left in (omega arith, items_on _ _ l.false l.end l.invariant.1 _ (omega arith) c.item_end-end.ensures (omega arith))
+loop-left-preserved c = let l = c.loop-left in (omega arith, items_on _ _ l.left l.end l.invariant.1 _ (omega arith) c.item_end-end.ensures (omega arith))
 
 pub returns : goal.returns
-returns c = let l = c.loop-left in items_done _ _ l.false l.end l.invariant.1 (omega arith) (omega arith)
+returns c = let l = c.loop-left in items_done _ _ l.left l.end l.invariant.1 (omega arith) (omega arith)
