@@ -29,4 +29,4 @@ returns-in-15238 c = listed Unmap _ (omega arith)
 
 pub returns-in_default : goal.returns-in_default
 unfolding commands
-returns-in_default c = unlisted _ (λ e. c.in_default-own.rest.0.0.0.0.0.0.1 (sym e), (λ e. c.in_default-own.rest.0.0.0.0.0.1 (sym e), (λ e. c.in_default-own.rest.0.0.0.0.1 (sym e), (λ e. c.in_default-own.rest.0.0.0.1 (sym e), (λ e. c.in_default-own.rest.0.0.1 (sym e), (λ e. c.in_default-own.rest.0.1 (sym e), (λ e. c.in_default-own.rest.1 (sym e), tt)))))))
+returns-in_default c = unlisted _ (λ e. c.in_default.in_default-own.rest.0.0.0.0.0.0.1 (sym e), (λ e. c.in_default.in_default-own.rest.0.0.0.0.0.1 (sym e), (λ e. c.in_default.in_default-own.rest.0.0.0.0.1 (sym e), (λ e. c.in_default.in_default-own.rest.0.0.0.1 (sym e), (λ e. c.in_default.in_default-own.rest.0.0.1 (sym e), (λ e. c.in_default.in_default-own.rest.0.1 (sym e), (λ e. c.in_default.in_default-own.rest.1 (sym e), tt)))))))
