@@ -8,7 +8,7 @@ use Rattle.check_reserved.specs.Clear.{strikes}
 use Rattle.check_reserved.proofs.list_struck.Given as goal
 
 abbrev pub invariant-loop-i : goal.invariant-loop-i
-invariant-loop-i l = (l.many ≡ min l.l.count 4) × (length l.l.starts ≡ 4) × (length l.l.lasts ≡ 4) × (any (λ r. any (strikes l.l.s r) (records_of l.l.ws)) (drop l.i (reserved l.l)) ≡ any (λ r. any (strikes l.l.s r) (records_of l.l.ws)) (reserved l.l))
+invariant-loop-i l = (l.many ≡ min l.l.count 4) × (length l.l.starts ≡ 4) × (length l.l.lasts ≡ 4) × (any (λ r. any (strikes l.s r) (records_of l.ws)) (drop l.i (reserved l.l)) ≡ any (λ r. any (strikes l.s r) (records_of l.ws)) (reserved l.l))
 
 abbrev pub decreases-loop-i : goal.decreases-loop-i
 decreases-loop-i l = l.many - l.i

@@ -10,7 +10,7 @@ use Rattle.longest_run.proofs.Running.{Trying}
 use Rattle.longest_run.proofs.past_slot.Given as goal
 
 abbrev pub invariant-loop-k : goal.invariant-loop-k
-invariant-loop-k l = (length l.l.starts ≡ 4) × (length l.l.lasts ≡ 4) × (l.n ≤ 4) × Trying (past_range l.l.a lowest_tried (blocked_in (objects_in l.l.h) (records_of l.l.ws) l.l.s) l.l.window) (listed l.n l.l.starts l.l.lasts) l.initial.best l.best l.k
+invariant-loop-k l = (length l.l.starts ≡ 4) × (length l.l.lasts ≡ 4) × (l.n ≤ 4) × Trying (past_range l.a lowest_tried (blocked_in (objects_in l.h) (records_of l.ws) l.s) l.window) (listed l.n l.l.starts l.l.lasts) l.initial.best l.best l.k
 
 abbrev pub decreases-loop-k : goal.decreases-loop-k
 decreases-loop-k l = l.n - l.k

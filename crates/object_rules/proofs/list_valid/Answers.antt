@@ -1,5 +1,6 @@
 -- The tests in order.
 use Rattle.rangelists.specs.Listed.{allowed}
+use Rattle.table.specs.Fitting.{list_fits-is}
 use Rattle.object_rules.proofs.list_valid.Goals as goal
 
 pub returns : goal.returns
@@ -15,4 +16,4 @@ returns c = rw (
       c.froms_at.ensures.0,
       c.used-n.ensures,
       c.allows_at-count.ensures,
-    ) (list_fits _)
+    ) (list_fits-is _)

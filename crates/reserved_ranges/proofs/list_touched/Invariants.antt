@@ -8,7 +8,7 @@ use Rattle.rules_table.specs.Good.{lists_touch}
 use Rattle.reserved_ranges.proofs.list_touched.Given as goal
 
 abbrev pub invariant-loop-i : goal.invariant-loop-i
-invariant-loop-i l = (l.i ≤ 32) × (lists_touch (reserved_of (drop l.i (objects_in l.l.h)) l.l.s) (allowed l.l) ≡ lists_touch (reserved_of (objects_in l.l.h) l.l.s) (allowed l.l))
+invariant-loop-i l = (l.i ≤ 32) × (lists_touch (reserved_of (drop l.i (objects_in l.h)) l.s) (allowed l.l) ≡ lists_touch (reserved_of (objects_in l.h) l.s) (allowed l.l))
 
 abbrev pub decreases-loop-i : goal.decreases-loop-i
 decreases-loop-i l = 32 - l.i
