@@ -197,7 +197,7 @@ module _ (l : Ledger) (t : Table) (q : Rel l t) (i : ℕ) (m : Mapping) (h : i <
     where
       old : (x : Mapping) → pages_by (q.who x.backing) l.made ≡ mapping_pages x → eqb x.backing m.backing ≡ false → q.who x.backing < l.time
           → pages_by (who' x.backing) (record { number = l.time; pages = mapping_pages m } ∷ l.made) ≡ mapping_pages x
-      old x k n b = rw (upd_other q.who m.backing l.time x.backing n, ne_eqb l.time (q.who x.backing) (λ e. omega (arith, e))) (omega (arith, k))
+      old x k n b = simp (upd_other q.who m.backing l.time x.backing n, ne_eqb l.time (q.who x.backing) (λ e. omega (arith, e))) (omega (arith, k))
 
   new_lately : Each (λ x. used x ≡ true → who' x.backing < suc l.time) (set t.mappings i m)
   unfolding who'
