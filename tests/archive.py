@@ -19,6 +19,8 @@ ENTRIES = ['iommufd_call', 'iommufd_explain', 'iommufd_host', 'iommufd_preview']
 NOTES = ['iommufd_archive_version', 'iommufd_archive_commit']
 NEEDED = {'memcpy', 'memmove', 'memset'}
 PAGE = 4096
+# what one probe of a large frame goes over, as the kit's compiler is told ("stack-probe-size")
+PROBE = 3072
 
 # The prefix of binutils and gcc, the bytes that a call itself takes from the stack, the most that the header may state.
 Machine = namedtuple('Machine', 'tools call limit reader')
@@ -50,8 +52,8 @@ class Code:
         raise Fault(f'{self.name}: {what}: {word} {given}')
 
     def takes(self, size):
-        """A step of the stack pointer. Inside a loop of probes it is a page, which the loop's goal counts already."""
-        if self.goal and size == PAGE:
+        """A step of the stack pointer. Inside a loop of probes it is one probe, which the loop's goal counts already."""
+        if self.goal and size == PROBE:
             self.goal = 0
         else:
             self.taken += size
@@ -133,6 +135,8 @@ def read_riscv64(code, word, given):
     elif m := re.fullmatch(r'(\w+),(\w+),(-?\w+)', given):
         if word in ('add', 'addi', 'addiw') and m[1] == m[2] and m[1] in known and re.fullmatch(r'-?\d+', m[3]):
             known[m[1]] += number(m[3])
+        elif word in ('sll', 'slli') and m[1] == m[2] and m[1] in known and re.fullmatch(r'0x[0-9a-f]+|\d+', m[3]):
+            known[m[1]] <<= number(m[3])
         else:
             known.pop(m[1], None)
 
@@ -229,7 +233,7 @@ PIECES = {
         ('vector or floating', 'fldz; ret'),
         ('it needs', 'jmp abort@PLT'),
         ('bytes of stack', 'sub $0x100,%rsp; add $0x100,%rsp; ret'),
-        ('bytes of stack', 'mov %rsp,%r11; sub $0x6000,%r11; 1: sub $0x1000,%rsp; movq $0,(%rsp); cmp %r11,%rsp; jne 1b; add $0x6000,%rsp; ret'),
+        ('bytes of stack', 'mov %rsp,%r11; sub $0x6000,%r11; 1: sub $0xc00,%rsp; movq $0,(%rsp); cmp %r11,%rsp; jne 1b; add $0x6000,%rsp; ret'),
         ('calls itself', 'sub $8,%rsp; call other; add $8,%rsp; ret; .globl other; other: jmp entry'),
         ('cannot be followed', 'call *%rax; ret'),
         ('stack pointer is changed', 'and $-16,%rsp; ret'),
@@ -255,7 +259,7 @@ PIECES = {
         ('vector or floating', 'fsd fs0,0(a0); ret'),
         ('it needs', 'tail abort'),
         ('bytes of stack', 'addi sp,sp,-272; addi sp,sp,272; ret'),
-        ('bytes of stack', 'lui t0,2; sub t1,sp,t0; lui t2,1; 1: sub sp,sp,t2; sd zero,0(sp); bne sp,t1,1b; lui t0,2; add sp,sp,t0; ret'),
+        ('bytes of stack', 'lui t0,2; sub t1,sp,t0; li t2,3; slli t2,t2,10; 1: sub sp,sp,t2; sd zero,0(sp); bne sp,t1,1b; lui t0,2; add sp,sp,t0; ret'),
         ('is not known', 'sub sp,sp,a0; ret'),
         ('cannot be followed', 'jalr a1; ret'),
         ('stack pointer is changed', 'mv sp,a0; ret'),

@@ -1,7 +1,7 @@
 #!/usr/bin/env python3
 """The built bench program at the limit of a plan's size, and with input that comes in pieces, against the model in tests/bench.py.
 
-    benchruns.py [--program target/bin/bench]
+    benchruns.py [--program crates/bench/out/bench]
 
 The proofs speak of the bytes that the program hands on; how many it reads is seen by running it. One that read no more than 65,536 would take the
 first 65,536 of a longer input for a plan. Ends with status 0 if all are alike, 1 if some differ, 2 without a program.

@@ -199,7 +199,7 @@ NAMES = {'h': ['head'], 'ms': ['mappings', 'count'], 'beside': ['beside', 'besid
 
 def proved():
     """The prototypes of the proved entries."""
-    for e in re.finditer(r'pub extern "C" fn (\w+)(?:<\'\w+>)?\(([^)]*)\) -> (\w+)', re.sub(r"&'\w+ ", '&', read(ENTRIES))):
+    for e in re.finditer(r'#\[unsafe\(no_mangle\)\]\npub extern "C" fn (\w+)(?:<\'\w+>)?\(([^)]*)\) -> (\w+)', re.sub(r"&'\w+ ", '&', read(ENTRIES))):
         given = []
         for name, kind in re.findall(r'(\w+): ([^,]+?)\s*(?:,|$)', e[2]):
             names = ['explanation'] if kind == '&mut [u64; 5]' else NAMES.get(name, [name])

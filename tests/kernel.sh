@@ -33,10 +33,13 @@ boot() { # STACK SSE LOWER WORDS ARCHIVE..
   objcopy -O elf32-i386 "$out/kernel64" "$out/kernel" # QEMU boots no other
   local status=0
   timeout 300 qemu-system-x86_64 -kernel "$out/kernel" -display none -monitor none -serial file:"$out/said" -no-reboot -device isa-debug-exit,iobase=0xf4,iosize=1 -m 64 \
-    -cpu qemu64 || status=$?
+    -cpu $cpu || status=$?
   [ $status -ne 124 ] || fail "it did not end"
   return $((status != 1))
 }
+
+# The archive for kernels asks for no more than the first x86-64; the kit's own for x86-64-v2.
+cpu=qemu64
 
 number() { sed -n "s/^$1: //p" "$out/said" | tail -n 1; }
 
@@ -50,7 +53,7 @@ case ${1:-} in
   echo "kernel: SSE off, $stack bytes of stack, interrupts on the same stack: every answer as without; a stack of $short bytes ends at its guard page"
   ;;
 --kit)
-  kit=target/staticlib/libboundary.a
+  kit=target/staticlib/libboundary.a cpu=Nehalem
   ar p $own version.o >"$out/version.o"
   ! boot $stack 0 8 -mpreferred-stack-boundary=3 $kit "$out/version.o" || fail "the kit's archive passed with SSE off"
   grep -q '^trap 6, ' "$out/said" || { cat "$out/said"; fail "the kit's archive did not end at a vector instruction"; }

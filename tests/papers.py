@@ -21,8 +21,8 @@ TOPS = ('crates/', 'tests/', 'examples/', 'plans/', 'include/', 'archives/', 'do
 PARTS = ('specs', 'src', 'proofs', 'must-fail')
 CRATES = '## The crates, from the ground up'
 BEFORE = '| crate of before | crate now |'
-# made by a build, not kept
-MADE = ('target/',)
+# made by a build or a check, not kept
+MADE = re.compile(r'target/|crates/\w+/out/')
 # names in backquotes that are the kit's, C's, Rust's or the platform's, and stand nowhere in the tree
 FOREIGN = {'rattle-cases'}
 
@@ -33,7 +33,7 @@ class Tree:
         self.crates = [c for f in reading.floors(self.texts['crates.txt']) for c in f[2]]
         self.files, words = set(), []
         for base, dirs, files in os.walk(ROOT):
-            dirs[:] = [d for d in dirs if d not in ('.git', 'target', '__pycache__')]
+            dirs[:] = [d for d in dirs if d not in ('.git', 'target', '__pycache__', 'out')]
             for name in files:
                 path = os.path.relpath(os.path.join(base, name), ROOT)
                 self.files.add(path)
@@ -137,7 +137,7 @@ def look(papers, tree):
             for word in token.split():
                 word = word.rstrip(',;')
                 path = tree.path(word)
-                if path and not path.startswith(MADE) and '*' not in path and '..' not in path and 'NAME' not in path:
+                if path and not MADE.match(path) and '*' not in path and '..' not in path and 'NAME' not in path:
                     if not tree.has(path.rstrip('/')):
                         say(paper, n, f'`{token.strip()}`: there is no {path}')
             if re.fullmatch(r'\w+\.edit', token) and not any(f.endswith('/must-fail/' + token) for f in tree.files):
@@ -224,17 +224,17 @@ SLIPS = [
     ('README.md', '    tests/kernel.sh --kit', '    tests/kernels.sh --kit', 'there is no tests/kernels.sh'),
     ('README.md', '`tests/model.py`', '`tests/modell.py`', 'there is no tests/modell.py'),
     ('README.md', '`examples/rust`', '`examples/go`', 'there is no examples/go'),
-    ('README.md', '`demand-3-lent` | `laws_lent/specs/Lending.antt`', '`demand-3-lent` | `laws_lent/specs/Refused.antt`', '`demand-3-lent` does not stand in'),
-    ('README.md', '`map-lowest`', '`map-highest`', '`map-highest` does not stand in'),
+    ('README.md', '`demand_3_lent` | `laws_lent/specs/Lending.antt`', '`demand_3_lent` | `laws_lent/specs/Refused.antt`', '`demand_3_lent` does not stand in'),
+    ('README.md', '`map_lowest`', '`map_highest`', '`map_highest` does not stand in'),
     ('README.md', '| `host_calls::decide_host`', '| `hostcalls::decide_host`', 'there is no crate hostcalls'),
     ('README.md', '`equal_charge_refused.edit`', '`equal_charge_taken.edit`', '`equal_charge_taken.edit` is no must-fail edit'),
-    ('README.md', '`cmd_calls::decide`', '`cmd_calls::decides`', 'nothing of that name in the code of cmd_calls'),
+    ('README.md', '`iommufd::decide`', '`iommufd::decides`', 'nothing of that name in the code of iommufd'),
     ('README.md', '\n| `wire` |', '\n| `wires` |', 'the crate wire of crates.txt has no row'),
     ('README.md', '\n| `wire` |', '\n| `wires` |', 'a row for wires, which crates.txt has not'),
     ('README.md', '### The rules\n', '### The law\n', 'the crate rules_table stands under "The law"'),
     ('docs/DECISIONS.md', '`lent_records::store`', '`lent_records::stores`', 'nothing of that name in the code of lent_records'),
     ('docs/DECISIONS.md', '`laws_good` was made', '`mappinglaws` was made', '`mappinglaws` is a crate of before'),
-    ('docs/DECISIONS.md', '`lowestTried`', '`lowestEver`', '`lowestEver` stands nowhere in the tree'),
+    ('docs/DECISIONS.md', '`lowest_tried`', '`lowest_ever`', '`lowest_ever` stands nowhere in the tree'),
     ('docs/PROVING.md', '`first-fires`', '`first-fired`', '`first-fired` stands nowhere in the tree'),
 ]
 

@@ -1,7 +1,7 @@
 #!/usr/bin/env python3
 """Plans at random, many of them at a boundary or damaged, run by the built bench program and by the model in tests/bench.py.
 
-    randomplans.py [--program target/bin/bench] [--seed 1] [--plans 3000]
+    randomplans.py [--program crates/bench/out/bench] [--seed 1] [--plans 3000]
 
 Ends with status 0 if all are alike, 1 with the shortest plan that differs, 2 without a program.
 """
@@ -409,12 +409,12 @@ def counted(said, results):
 def given_arguments(does, **numbers):
     """The program, and numbers with what they are if not given. Without a program the script ends."""
     parser = argparse.ArgumentParser(description=does)
-    parser.add_argument('--program', default=from_root('target', 'bin', 'bench'), help='the built program (target/bin/bench)')
+    parser.add_argument('--program', default=from_root('crates', 'bench', 'out', 'bench'), help='the built program (crates/bench/out/bench)')
     for name, number in numbers.items():
         parser.add_argument('--' + name, type=int, default=number)
     given = parser.parse_args()
     if not os.access(given.program, os.X_OK):
-        print('%s: there is no program %s; rt check bench builds it' % (parser.prog, os.path.relpath(given.program)))
+        print('%s: there is no program %s; rt run in crates/bench builds it' % (parser.prog, os.path.relpath(given.program)))
         sys.exit(2)
     given.program = os.path.abspath(given.program)
     return given

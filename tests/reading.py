@@ -62,7 +62,8 @@ def read_tree(root=ROOT):
         with open(os.path.join(root, top), encoding='utf-8') as f:
             texts[top] = f.read()
     for base, dirs, files in os.walk(os.path.join(root, 'crates')):
-        dirs.sort()
+        # out/ has copies that rt makes
+        dirs[:] = sorted(d for d in dirs if d != 'out')
         for name in sorted(files):
             if name.endswith(('.rt', '.antt')):
                 path = os.path.join(base, name)
@@ -76,7 +77,7 @@ def floors(crates_txt):
     out = []
     for line in crates_txt.split('\n'):
         heading = re.match(r'# ([^:.,]+)(.*)', line)
-        row = re.match(r'(\w+):(.*)', line)
+        row = re.match(r'(\w+)(?: staticlib)?:(.*)', line)
         if heading:
             out.append((heading[1], heading[2].lstrip(':., ').strip(), [], {}))
         elif row:
@@ -170,7 +171,7 @@ class Tree:
         if path not in self.envs:
             names, modules = {}, {}
             for m in USE.finditer(self.texts[path]):
-                p = re.match(r'Rattle·(\w+?)(?:·specs|·proofs)?\.specs\.(.*)$', m['path'])
+                p = re.match(r'Rattle\.(\w+)\.specs\.(.*)$', m['path'])
                 if p:
                     parts = p[2].split('.')
                     # a declared type, or one of its cases
@@ -187,8 +188,9 @@ class Tree:
                     if k[:2] == spec.groups():
                         names[k[2]] = k
             elif path.endswith('.rt'):
-                for m in re.finditer(r'(?m)^(?:pub )?use (\w+)::(\w+);', self.texts[path]):
-                    names.setdefault(m[2], (m[1], 'declared', m[2]))
+                for m in re.finditer(r'(?m)^(?:pub )?use (\w+)::(?:(\w+)|\{([^{}]*)\});', self.texts[path]):
+                    for name in re.findall(r'\w+', m[2] or m[3]):
+                        names.setdefault(name, (m[1], 'declared', name))
                 for k in self.at:
                     if k[:2] == (path.split('/')[1], 'declared'):
                         names.setdefault(k[2], k)
@@ -231,7 +233,8 @@ class Tree:
             for m in re.finditer(r'(?ms)^pub (?:extern "C" )?fn (\w+)(.*?)^\{', self.texts[path]):
                 if wanted is None or m[1] in wanted:
                     functions.append(f'{crate}::{m[1]}')
-                    if 'ensures' not in m[2]:
+                    # what stands before the first brace is the signature, and behind it the name of a clause, or the body begins
+                    if not re.search(r'\n +(?:requires|ensures)(?: \w+)? $', m[2].split('{')[0]) or not re.search(r'\n +ensures(?: \w+)? \{', m[2]):
                         raise Fault(f'{crate}::{m[1]} has no contract')
                     out |= self.cited(m[2], path)
         for crate, wanted in CONTRACTS:
@@ -350,7 +353,7 @@ def reading(texts):
     if here:
         out += ['### The ground, for the theorems', ''] + file_rows(files, here) + ['']
     files = by_file(tree, beside)
-    out += ['### Words of the theorems themselves', '', 'They stand with the laws; `CandidateIn`, what `map-lowest` calls a candidate in a space, beside the code that finds it.', ''] + file_rows(files, sorted(files)) + ['']
+    out += ['### Words of the theorems themselves', '', 'They stand with the laws; `CandidateIn`, what `map_lowest` calls a candidate in a space, beside the code that finds it.', ''] + file_rows(files, sorted(files)) + ['']
     out += ['## The statements', '', 'Lines before the last one of a row are the `module _` headers that the theorem stands under: their parameters are its hypotheses.', '', '| theorem | file | lines |', '|---|---|---|']
     for name, k in theorems:
         path, d = tree.at[k]
@@ -419,15 +422,18 @@ def faults(texts):
         return {**texts, path: text}
 
     answers, results = 'crates/rules_calls/specs/Answers.antt', 'crates/rules_calls/specs/Results.antt'
-    moved = slip(answers, ('specs.Results.{result}', 'specs.Signs.{result}'))
+    moved = slip(answers, ('specs.Results.{signed_result}', 'specs.Signs.{signed_result}'))
     moved['crates/rules_calls/specs/Signs.antt'] = texts[results]
+    own, head = 'crates/iommufd/src/lib.rt', 'ghost use Rattle.rules_table.'
+    clause = 'ensures { result ≡ outcome t (host_edit t (detach_order'
     cases = [
-        ('a contract that cites a definition of the code', slip('crates/iommufd/src/lib.rt', ('ghost use Rattle·rules_table', 'ghost use Rattle·cmd_calls.specs.Deciding.{commandIn};\nghost use Rattle·rules_table'), ('a ≡ freshAnswer limit', 'a ≡ commandIn freshAnswer limit'))),
-        ('a rule that cites a definition of the code', slip(answers, ('use lib.IntN.{ℤ, pos, negsuc}\n', 'use lib.IntN.{ℤ, pos, negsuc}\nuse Rattle·lent_edit.specs.Edits.{objectOf}\n'), ('table = applied t e }', 'table = objectOf t e }'))),
-        ('a theorem that cites a definition of the code', slip('crates/laws_refusal/specs/BadTable.antt', ('pub bad-117 : (c : Call)', 'pub bad-117 : (c : commandIn)'), ('use Rattle·rules_history', 'use Rattle·cmd_calls.specs.Deciding.{commandIn}\nuse Rattle·rules_history'))),
-        ('a function that is gone', slip('crates/iommufd/src/lib.rt', ('pub fn detach(', 'pub fn let_go('))),
-        ('a function without a contract', slip('crates/iommufd/src/lib.rt', ('ensures { λ a. ⌜ a ≡ outcome t (hostEdit t (detachOrder', 'promises { λ a. ⌜ a ≡ outcome t (hostEdit t (detachOrder'))),
-        ('a theorem that is not in the file named', slip('README.md', ('| `demand-3` |', '| `demand-4` |'))),
+        ('a contract that cites a definition of the code', slip(own, (head, 'ghost use Rattle.lent_edit.specs.Edits.{object_of};\n' + head), ('result ≡ fresh_answer limit', 'result ≡ object_of fresh_answer limit'))),
+        ('a rule that cites a definition of the code', slip(answers, ('use Rattle.wire.', 'use Rattle.lent_edit.specs.Edits.{object_of}\nuse Rattle.wire.'), ('table = applied t e }', 'table = object_of t e }'))),
+        ('a theorem that cites a definition of the code', slip('crates/laws_refusal/specs/BadTable.antt', ('pub bad-117 : (c : Call)', 'pub bad-117 : (c : command_in)'), ('use Rattle.rules_history', 'use Rattle.iommufd.specs.Deciding.{command_in}\nuse Rattle.rules_history'))),
+        ('a function that is gone', slip(own, ('pub fn detach(', 'pub fn let_go('))),
+        ('a function without a contract', slip(own, (clause, clause.replace('ensures', 'promises')))),
+        ('a function without a contract, before one that has it', slip(own, ('    ensures { result ≡ fresh_answer limit }\n{', '{'), ('-> Answer\n{', '-> Answer {'))),
+        ('a theorem that is not in the file named', slip('README.md', ('| `demand_3` |', '| `demand_4` |'))),
         ('a file without a place in the order', moved),
         ('more lines than are wanted', slip(answers, ('outcome t e =', 'outcome t e =' + '\n    t' * 300))),
     ]

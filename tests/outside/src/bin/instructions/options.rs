@@ -20,7 +20,7 @@ impl Limits {
 }
 
 /// A hundredth or more above what it took when this was written, rounded up.
-const LIMITS: Limits = Limits { plain: [0.75, 0.8, 0.95, 1.05], tuned: [1.25, 1.3, 1.35, 1.4] };
+const LIMITS: Limits = Limits { plain: [0.8, 0.85, 0.95, 1.05], tuned: [1.35, 1.35, 1.4, 1.4] };
 
 /// The most that a full table of another order, or with many reserved ranges, may take against the ascending one.
 pub const ORDER_LIMITS: [(Shape, f64); 2] = [(Shape::Worn, 1.1), (Shape::Crowded, 2.5)];
