@@ -38,7 +38,8 @@ class Tree:
                 path = os.path.relpath(os.path.join(base, name), ROOT)
                 self.files.add(path)
                 self.files.update(path[:m.start() + 1] for m in re.finditer('/', path))
-                if not path.endswith('.md') and path != 'tests/papers.py':
+                # tools/ has names of before
+                if not path.endswith('.md') and path != 'tests/papers.py' and not path.startswith('tools/'):
                     with open(os.path.join(base, name), encoding='utf-8', errors='ignore') as f:
                         words.append(f.read())
         text = '\n'.join(words)
