@@ -19,13 +19,6 @@ use Rattle.plan_shape.specs.Plan.{command_end, item_end, part, order_at}
 use Rattle.plan_commands.specs.Ran.{answer_to, ran_by, ran_at}
 use Rattle.plan_shape.specs.Ends.{part-is}
 
-pub copied : (from to next : List ℕ) → length to ≡ length from → next ≡ take (length from) from ++ drop (length from) to → next ≡ from
-copied from to next h e =
-    e
-    ∙ ap (λ (x : List ℕ). x ++ drop (length from) to) (take_all (length from) from (omega arith))
-    ∙ ap (λ (x : List ℕ). from ++ x) (drop_of_length-le to {i = length from} (omega arith))
-    ∙ append-nil from
-
 pub called : (t : Table) (n : ℕ) (bytes ranges cmd area : List ℕ) (a : Answer) → cmd ≡ bytes → area ≡ ranges → a ≡ (call_done t n cmd area).answer → a ≡ (call_done t n bytes ranges).answer
 called t n bytes ranges cmd area a e f g = g ∙ rw (e, f) refl
 

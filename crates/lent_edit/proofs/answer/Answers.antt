@@ -10,4 +10,4 @@ use Rattle.lent_edit.proofs.answer.Goals as goal
 pub returns : goal.returns
 unfolding served_by
 returns c = ap (λ (z : ℤ). record { result = z; records = c.records_for.result }) (search rules ∙ c.signed_result.ensures)
-    ∙ ap (λ (r : Records). record { result = result c.args.e.errno; records = r }) c.records_for.ensures
+    ∙ ap (λ (r : Records). record { result = signed_result c.args.e.errno; records = r }) c.records_for.ensures

@@ -9,10 +9,10 @@ pub loop-left-init : goal.loop-left-init
 loop-left-init c = refl
 
 pub returns-then-s : goal.returns-then-s
-returns-then-s c = let l = c.loop-left in turn-stops _ _ (spaces-turn l.false l.t (omega arith)) l.invariant c.add_space-s.ensures c.if-s.true
+returns-then-s c = let l = c.loop-left in turn-stops _ _ (spaces-turn l.left l.t (omega arith)) l.invariant c.add_space-s.ensures c.if-s.true
 
 pub loop-left-preserved : goal.loop-left-preserved
-loop-left-preserved c = let l = c.loop-left in turn-goes (with_space l.t) _ (spaces-turn l.false l.t (omega arith)) l.invariant c.add_space-s.ensures c.if-s.false
+loop-left-preserved c = let l = c.loop-left in turn-goes (with_space l.t) _ (spaces-turn l.left l.t (omega arith)) l.invariant c.add_space-s.ensures c.if-s.false
 
 pub returns : goal.returns
-returns c = let l = c.loop-left in sym (spaces-none l.false l.t (omega arith)) ∙ l.invariant
+returns c = let l = c.loop-left in sym (spaces-none l.left l.t (omega arith)) ∙ l.invariant
