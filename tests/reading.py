@@ -154,14 +154,24 @@ def types(text):
 
 # ---- from a name to what it stands for
 
+def place(crate, folder, module):
+    """Where the names of a file in specs/ or proofs/ stand. The two folders may have a file of one name."""
+    return crate, module if folder == 'specs' else f'{folder}.{module}'
+
+
+def place_of(path):
+    m = re.match(r'crates/(\w+)/(specs|proofs)/(\w+)\.antt$', path)
+    return place(*m.groups()) if m else None
+
+
 class Tree:
     def __init__(self, texts):
         self.texts, self.at, self.envs = texts, {}, {}
         for path, text in texts.items():
-            spec = re.match(r'crates/(\w+)/specs/(\w+)\.antt$', path)
-            if spec:
+            here = place_of(path)
+            if here:
                 for d in declarations(text):
-                    self.at[(spec[1], spec[2], d.name)] = (path, d)
+                    self.at[here + (d.name,)] = (path, d)
             elif re.match(r'crates/\w+/src/', path):
                 for d in types(text):
                     self.at[(path.split('/')[1], 'declared', d.name)] = (path, d)
@@ -171,21 +181,21 @@ class Tree:
         if path not in self.envs:
             names, modules = {}, {}
             for m in USE.finditer(self.texts[path]):
-                p = re.match(r'Rattle\.(\w+)\.specs\.(.*)$', m['path'])
+                p = re.match(r'Rattle\.(\w+)\.(specs|proofs)\.(.*)$', m['path'])
                 if p:
-                    parts = p[2].split('.')
+                    parts = p[3].split('.')
                     # a declared type, or one of its cases
-                    where = (p[1], 'declared', parts[1]) if parts[0] == 'declared' else (p[1], parts[0])
+                    where = (p[1], 'declared', parts[1]) if parts[0] == 'declared' else place(p[1], p[2], parts[0])
                     if m['items'] is None:
                         modules[m['alias'] or parts[-1]] = where
                     for item in re.split(r'\s*,\s*', (m['items'] or '').strip()):
                         if item:
                             name, _, local = item.partition(' as ')
                             names[(local or name).strip()] = where if len(where) == 3 else where + (name.strip(),)
-            spec = re.match(r'crates/(\w+)/specs/(\w+)\.antt$', path)
-            if spec:
+            here = place_of(path)
+            if here:
                 for k in self.at:
-                    if k[:2] == spec.groups():
+                    if k[:2] == here:
                         names[k[2]] = k
             elif path.endswith('.rt'):
                 for m in re.finditer(r'(?m)^(?:pub )?use (\w+)::(?:(\w+)|\{([^{}]*)\});', self.texts[path]):
@@ -430,6 +440,7 @@ def faults(texts):
         ('a contract that cites a definition of the code', slip(own, (head, 'ghost use Rattle.lent_edit.specs.Edits.{object_of};\n' + head), ('result ≡ fresh_answer limit', 'result ≡ object_of fresh_answer limit'))),
         ('a rule that cites a definition of the code', slip(answers, ('use Rattle.wire.', 'use Rattle.lent_edit.specs.Edits.{object_of}\nuse Rattle.wire.'), ('table = applied t e }', 'table = object_of t e }'))),
         ('a theorem that cites a definition of the code', slip('crates/laws_refusal/specs/BadTable.antt', ('pub bad-117 : (c : Call)', 'pub bad-117 : (c : command_in)'), ('use Rattle.rules_history', 'use Rattle.iommufd.specs.Deciding.{command_in}\nuse Rattle.rules_history'))),
+        ('a theorem of proofs/ that cites a definition of the code', slip('crates/laws_reasons/proofs/Says.antt', ('pub told-so : (b : Board)', 'pub told-so : (b : command_in)'), ('use Rattle.rules_index', 'use Rattle.iommufd.specs.Deciding.{command_in}\nuse Rattle.rules_index'))),
         ('a function that is gone', slip(own, ('pub fn detach(', 'pub fn let_go('))),
         ('a function without a contract', slip(own, (clause, clause.replace('ensures', 'promises')))),
         ('a function without a contract, before one that has it', slip(own, ('    ensures { result ≡ fresh_answer limit }\n{', '{'), ('-> Answer\n{', '-> Answer {'))),

@@ -5,5 +5,3 @@ pub mod Numbers
 pub mod Door
 pub mod Lowest
 pub mod Says
-pub mod Bounds
-pub mod Lent

@@ -17,8 +17,9 @@ use Rattle.rules_reasons.specs.declared.Reason.{Reason}
 use Rattle.rules_reasons.specs.declared.Reason.TheVariants.{TouchesReserved, TouchesMapping, NoPlace}
 use Rattle.rules_reasons.specs.declared.Explained.TheVariants.{Told}
 use Rattle.rules_reasons.specs.Explain.{board_explained}
-use Rattle.laws_reasons.specs.Door.{tells-exactly}
-use Rattle.laws_reasons.specs.Says.{Says, told-so}
+use Rattle.laws_reasons.proofs.Door.{tells-exactly}
+use Rattle.laws_reasons.specs.Says.{Says}
+use Rattle.laws_reasons.proofs.Says.{told-so}
 
 row-record : (w : Row) (t : Table) (bytes : List ℕ) (n : ℕ) → Says w t bytes (TouchesMapping n) → (1 ≤ n) × (n ≤ ListN.length t.mappings)
 row-record Unlisted t bytes n h = absurd h

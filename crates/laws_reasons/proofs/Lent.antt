@@ -13,7 +13,7 @@ use Rattle.rules_reasons.specs.Explain.{board_explained, reason_words, tool_errn
 use Rattle.rules_lent.specs.Lent.{board_of}
 use Rattle.rules_lent.specs.Entries.{LentCall}
 use Rattle.rules_lent.specs.Explaining.{LentExplain}
-use Rattle.laws_reasons.specs.Door.{errno-told, board_told}
+use Rattle.laws_reasons.proofs.Door.{errno-told, board_told}
 
 -- a refusal leaves the words
 words_left : (x : Explained) (words : List ℕ) → (tool_errno x ≡ 0 → ⊥) → told_words x words ≡ words

@@ -1,0 +1,4 @@
+pub mod Door
+pub mod Says
+pub mod Bounds
+pub mod Lent
