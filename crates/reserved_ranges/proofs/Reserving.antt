@@ -2,11 +2,11 @@
 use Prim.Native.Nat.{ℕ, ◌+◌, ◌*◌, ◌≤◌, ◌<◌, min}
 use mathlib.Core.Path.{◌≡◌, refl, sym, ap, ◌∙◌, subst}
 use mathlib.Core.Bool.{Bool, true, false, not}
-use mathlib.Core.List.{List}
+use mathlib.Core.List.{List, []}
 use native.Mathlib.Omega.{arith}
 use lib.ListN.{length, get_or, take, drop, length-take}
 use borrow.Author.Tests.{not-true, not-false}
-use Rattle.lists.specs.Search.{any}
+use Rattle.lists.specs.Search.{any, any-nil}
 use Rattle.ranges.specs.declared.Range.{Range}
 use Rattle.ranges.specs.Ranges.{share}
 use Rattle.alignment.specs.declared.Spot.{Spot}
@@ -35,6 +35,22 @@ module _ (s : ℕ) (o : Object) (l : Reserved) (k : Kind) (b : Bool) (ek : k ≡
   pub reserving_list : not b ≡ false → l ≡ o.reserved → reserved l ≡ reserved_for s o
   unfolding reserved_for
   reserving_list h e = rw (attached-is true (not-false b h), e)
+
+-- the same where no list is made
+module _ (s : ℕ) (o : Object) (b : Bool) (eb : b ≡ attached_to s o.kind) where
+  silent : not b ≡ true → reserved_for s o ≡ []
+  unfolding reserved_for
+  silent h = rw (sym eb ∙ not-true b h)
+
+  pub reserving_made : not b ≡ false → (l : Reserved) → l ≡ o.reserved → reserved l ≡ reserved_for s o
+  unfolding reserved_for
+  reserving_made h l e = rw (sym eb ∙ not-false b h, e)
+
+  pub none_touches : not b ≡ true → (r : Range) → false ≡ any (share r) (reserved_for s o)
+  none_touches h r = sym (ap (any (share r)) (silent h) ∙ any-nil (share r))
+
+  pub none_swept : not b ≡ true → (a n x : ℕ) → x < 0x1_0000_0000_0000_0000 → Swept a n (reserved_for s o) x (At x) 0
+  none_swept h a n x k = subst (λ (qs : List Range). Swept a n qs x (At x) 0) (sym (silent h)) (swept-nil a n x k)
 
 pub slot-touches : (r : Range) (l : Reserved) (rs : List Range) (f : Found) (b : Bool) → reserved l ≡ rs → f ≡ first_touched r (reserved l)
     → b ≡ is_found f → b ≡ any (share r) rs

@@ -42,6 +42,15 @@ fn counts_in(k: Kind, s: u32) -> bool
     table::attached_to(k, s)
 }
 
+// Whether slot i reserves anything in space s. Most do not, and no list is made of them.
+fn reserves_in(h: &[u64; 865], i: usize, s: u32) -> bool
+    requires { i < 32 }
+    ensures { result ≡ attached_to s (get_or (objects_in h.now) i zero_object).kind }
+{
+    let k = layout_objects::kind_at(h, i);
+    counts_in(k, s)
+}
+
 // What slot i reserves in space s: the list of a device that is attached to it, else an empty one.
 pub fn reserved_for(h: &[u64; 865], i: usize, s: u32) -> Reserved
     requires { i < 32 }
@@ -58,7 +67,10 @@ pub fn slot_touched(h: &[u64; 865], i: usize, s: u32, r: Range) -> bool
     requires { i < 32 }
     ensures { result ≡ any (share r) (reserved_for s (get_or (objects_in h.now) i zero_object)) }
 {
-    let l = reserved_for(h, i, s);
+    if !reserves_in(h, i, s) {
+        return false;
+    }
+    let l = layout_objects::reserved_at(h, i);
     rangelists::is_found(rangelists::reserved_touched(l, r))
 }
 
@@ -103,7 +115,13 @@ fn sweep_slot(h: &[u64; 865], i: usize, s: u32, w: Want, from: u64) -> Search
     requires { i < 32 }
     ensures { Swept w.alignment w.length (reserved_for s (get_or (objects_in h.now) i zero_object)) from result.spot result.jumps }
 {
-    let l = reserved_for(h, i, s);
+    if !reserves_in(h, i, s) {
+        return Search {
+            spot: Spot::At(from),
+            jumps: 0,
+        };
+    }
+    let l = layout_objects::reserved_at(h, i);
     let n = rangelists::used(l.count, 4);
     placement::sweep(&l.starts, &l.lasts, n, w, from)
 }
