@@ -158,34 +158,40 @@ class Tree:
     def __init__(self, texts):
         self.texts, self.at, self.envs = texts, {}, {}
         for path, text in texts.items():
-            spec = re.match(r'crates/(\w+)/specs/(\w+)\.antt$', path)
-            if spec:
+            here = self.module(path)
+            if here:
                 for d in declarations(text):
-                    self.at[(spec[1], spec[2], d.name)] = (path, d)
+                    self.at[here + (d.name,)] = (path, d)
             elif re.match(r'crates/\w+/src/', path):
                 for d in types(text):
                     self.at[(path.split('/')[1], 'declared', d.name)] = (path, d)
+
+    @staticmethod
+    def module(path):
+        """The crate and the module of a file of specs/, or of a file of laws in proofs/."""
+        m = re.match(r'crates/(\w+)/(specs|proofs)/(\w+)\.antt$', path)
+        return m and (m[1], m[3] if m[2] == 'specs' else 'proofs.' + m[3])
 
     def env(self, path):
         """What a file means by a name, and by a name before a dot."""
         if path not in self.envs:
             names, modules = {}, {}
             for m in USE.finditer(self.texts[path]):
-                p = re.match(r'Rattle\.(\w+)\.specs\.(.*)$', m['path'])
+                p = re.match(r'Rattle\.(\w+)\.(specs|proofs)\.(.*)$', m['path'])
                 if p:
-                    parts = p[2].split('.')
+                    parts = p[3].split('.')
                     # a declared type, or one of its cases
-                    where = (p[1], 'declared', parts[1]) if parts[0] == 'declared' else (p[1], parts[0])
+                    where = (p[1], 'declared', parts[1]) if parts[0] == 'declared' else (p[1], parts[0] if p[2] == 'specs' else 'proofs.' + parts[0])
                     if m['items'] is None:
                         modules[m['alias'] or parts[-1]] = where
                     for item in re.split(r'\s*,\s*', (m['items'] or '').strip()):
                         if item:
                             name, _, local = item.partition(' as ')
                             names[(local or name).strip()] = where if len(where) == 3 else where + (name.strip(),)
-            spec = re.match(r'crates/(\w+)/specs/(\w+)\.antt$', path)
-            if spec:
+            here = self.module(path)
+            if here:
                 for k in self.at:
-                    if k[:2] == spec.groups():
+                    if k[:2] == here:
                         names[k[2]] = k
             elif path.endswith('.rt'):
                 for m in re.finditer(r'(?m)^(?:pub )?use (\w+)::(?:(\w+)|\{([^{}]*)\});', self.texts[path]):
