@@ -1,5 +1,3 @@
 -- Reach in plain terms: what each answer means, for a table by value and for one in the caller's memory.
 pub mod Plain
-pub mod Found
 pub mod Reach
-pub mod Lent

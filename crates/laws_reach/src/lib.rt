@@ -1,2 +1,2 @@
-// What reach's answers say of the table, in plain terms. No code: see specs/.
+// What reach's answers say of the table, in plain terms. No code: see specs/, and proofs/ for the laws.
 #![tactic(auto)]

@@ -26,7 +26,7 @@ use Rattle.index_search.specs.Spans.{Spanning}
 use Rattle.lent_records.specs.declared.Records.{Records}
 use Rattle.lent_records.specs.declared.Records.TheVariants as record-variants
 use Rattle.lent_records.specs.Records.{stored}
-use Rattle.lent_records.specs.Stored.{stored-keep, stored-put, stored-clear}
+use Rattle.lent_records.proofs.Stored.{stored-keep, stored-put, stored-clear}
 use Rattle.lent_edit.specs.declared.Served.{Served}
 
 -- the slot of the object record that is written, 32 where none is

@@ -11,7 +11,7 @@ use Rattle.rules_table.specs.Words.{head_in}
 use Rattle.rules_calls.specs.Edits.{refuse}
 use Rattle.rules_lent.specs.Entries.{LentFresh, fresh_errno}
 use Rattle.lent_records.specs.Records.{stored}
-use Rattle.lent_records.specs.Lent.{stored-wipe}
+use Rattle.lent_records.proofs.Lent.{stored-wipe}
 use Rattle.lent_records.specs.declared.Records.TheVariants.{Wipe}
 use Rattle.lent_edit.specs.declared.Served.{Served}
 use Rattle.lent_edit.specs.Edits.{nowhere, served_by, refused-records, refused-result}

@@ -12,7 +12,8 @@ use Rattle.plan.specs.declared.Outcome.{Outcome}
 use Rattle.plan_shape.specs.Plan.{Plan, plan_of, whole}
 use Rattle.plan_setup.specs.Setting.{set_up}
 use Rattle.plan.specs.Running.{Line, request_of, result_of, charge_of, is_ready, lines_of, shown}
-use Rattle.plan_laws.specs.Sequence.{order_call, setup_calls, plan_calls, table_of, lines_told, plan-told, lines-told}
+use Rattle.plan_laws.specs.Sequence.{order_call, setup_calls, plan_calls, table_of, lines_told}
+use Rattle.plan_laws.proofs.Sequence.{plan-told, lines-told}
 
 -- demand 3 of a plan: the ledger of its calls and their answers tells the table that its run leaves, and each of its lines
 pub record PlanTold (p : Plan) : Type 0 where

@@ -3,8 +3,8 @@ use Rattle.std.proofs.Common.{◌≡◌, ◌+◌, ◌<◌, ◌≤◌, length, ge
 use Rattle.walks.specs.Stores.{stores, stores-next, stores-rest, stores_same}
 use Rattle.rules_table.specs.Records.{zero_mapping}
 use Rattle.lent_records.specs.Records.{stored, changes, turns_of}
-use Rattle.lent_records.specs.Lent.{next-changed, next-kept, stored_at}
-use Rattle.lent_records.specs.Stored.{turns_within, first-within, stored-first, stored-turns}
+use Rattle.lent_records.proofs.Lent.{next-changed, next-kept, stored_at}
+use Rattle.lent_records.proofs.Stored.{turns_within, first-within, stored-first, stored-turns}
 use Rattle.lent_records.proofs.store.Goals as goal
 use Rattle.lent_records.proofs.store.Goals.{then-is_changed, else-is_changed}
 

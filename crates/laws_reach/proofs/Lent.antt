@@ -20,7 +20,8 @@ use Rattle.rules_lent.specs.Lent.{board_of}
 use Rattle.rules_lent.specs.Entries.{LentHost, is_write}
 use Rattle.laws_board.specs.Answers.{good-table, good-index, host_same}
 use Rattle.laws_reach.specs.Plain.{Reaches, Denied, Nowhere}
-use Rattle.laws_reach.specs.Reach.{answers, reach-0, reach-1, reach-14}
+use Rattle.laws_reach.specs.Reach.{answers}
+use Rattle.laws_reach.proofs.Reach.{reach-0, reach-1, reach-14}
 
 module _ (h : Head) (ms : List Mapping) (ix : List ℕ) (gb : good_board (board_of h ms ix) ≡ true) (d a n w : ℕ) (words : List ℕ) (r : ℤ) (h' : Head) (ms' : List Mapping)
     (ix' words' : List ℕ)

@@ -12,7 +12,7 @@ use Rattle.walks.specs.Stores.{stores, stores-none, stores-next, stores-all, sto
 use Rattle.lent_records.specs.declared.Records.{Records}
 use Rattle.lent_records.specs.declared.Records.TheVariants.{Keep, Put, Clear, Wipe}
 use Rattle.lent_records.specs.Records.{changes, next_record, stored_from, stored, turns_of, first_of}
-use Rattle.lent_records.specs.Lent.{next-kept, stored-length, stored_at}
+use Rattle.lent_records.proofs.Lent.{next-kept, stored-length, stored_at}
 
 keep-from : (k : ℕ) (ms : List Mapping) → stored_from Keep k ms ≡ ms
 unfolding stored_from next_record
