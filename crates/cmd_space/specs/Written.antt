@@ -4,8 +4,9 @@ use Rattle.std.proofs.Common.{◌∙◌}
 use Rattle.lists.specs.Search.{any}
 use Rattle.ranges.specs.declared.Range.{Range}
 use Rattle.ranges.specs.Ranges.{holds}
-use Rattle.freeranges.specs.Free.{U64END, Spaced, free-has, free-spaced}
-use Rattle.freeranges.specs.Fewest.{free-fewest}
+use Rattle.freeranges.specs.Free.{U64END, Spaced}
+use Rattle.freeranges.proofs.Free.{free-has, free-spaced}
+use Rattle.freeranges.proofs.Fewest.{free-fewest}
 use Rattle.rules_table.specs.declared.Object.{Object}
 use Rattle.rules_table.specs.Spaces.{reserved_of}
 use Rattle.rules_calls.specs.Ranges.{free_of}

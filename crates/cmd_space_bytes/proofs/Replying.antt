@@ -10,7 +10,7 @@ use borrow.Author.Tests.{ltb-false, not-false, ne_eqb}
 use Rattle.lists.specs.Checks.{when, first, first-each, first-stays, first_goes, Refusals, passed}
 use Rattle.wire.specs.Fields.{field, put}
 use Rattle.freeranges.specs.Free.{free_ranges}
-use Rattle.freeranges.specs.Fewest.{free-length}
+use Rattle.freeranges.proofs.Fewest.{free-length}
 use Rattle.freeranges.specs.Written.{put_ranges}
 use Rattle.rules_table.specs.declared.Object.{Object}
 use Rattle.rules_table.specs.Records.{new_space, object_at, space_at}

@@ -1,2 +1,5 @@
+pub mod Fewest
+pub mod Free
+pub mod From
 pub mod Scanning
 pub mod Writing

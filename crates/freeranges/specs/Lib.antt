@@ -1,6 +1,5 @@
--- What is not reserved: its definition and laws, what the search for it computes, how it is written, and worked examples.
+-- What is not reserved: its definition, what the search for it computes, how it is written, and worked examples.
 pub mod Free
-pub mod Fewest
 pub mod From
 pub mod Scan
 pub mod Written

@@ -1,16 +1,15 @@
 -- What the search for the next free range asks of the reserved ranges, and what it gives.
 use Rattle.std.specs.Prelude.{ℕ, ◌+◌, ◌-◌, ◌≤◌, ◌<◌, min, true, ◌&&◌, cond, List, [], ◌∷◌, leb, ltb}
 use Rattle.std.proofs.Math.Path.{◌≡◌, refl}
-use Rattle.std.proofs.Common.{sym, ap, ◌∙◌, arith}
+use Rattle.std.proofs.Common.{sym, ◌∙◌, arith}
 use Rattle.std.proofs.Math.Bool.{false}
 use Rattle.std.proofs.Math.Option.{Option, none, some}
 use borrow.Author.Tests.{leb-true, leb-false, le-leb, lt-leb, lt-ltb, le-ltb, ltb-true, ltb-false}
 use Rattle.lists.specs.Tests.{by-test, contrary, and_not_right, or_right, or_not_left, or_not_right}
 use Rattle.lists.specs.Search.{find, find_none, find-some, find-some_any}
 use Rattle.ranges.specs.declared.Range.{Range}
-use Rattle.ranges.specs.Ranges.{U64MAX, range, holds, holds-from, holds-upto, holds_of}
+use Rattle.ranges.specs.Ranges.{U64MAX, holds, holds-from, holds-upto, holds_of}
 use Rattle.freeranges.specs.Free.{U64END, held, free_from, held-nil, held_cons, holds-out}
-use Rattle.freeranges.specs.From.{First, first_of}
 use Rattle.freeranges.specs.declared.Cover.{Cover}
 use Rattle.freeranges.specs.declared.Cover.TheVariants.{Clear, Upto}
 use Rattle.freeranges.specs.declared.Gap.{Gap}
@@ -161,18 +160,7 @@ unfolding gap_of
 gap_nothing [] e = refl
 gap_nothing (g ∷ gs) e = let z : ◌≡◌ {A = ℕ} 0 1 = cc in absurd (omega arith)
 
-gap_at : (gs : List Range) (s l : ℕ) → At s l ≡ gap_of gs → (hs : List Range) × (gs ≡ range s l ∷ hs)
-unfolding gap_of
-gap_at [] s l e = let z : ◌≡◌ {A = ℕ} 0 1 = cc in absurd (omega arith)
-gap_at (g ∷ gs) s l e =
-    let p : s ≡ g.start = cc in
-    let q : l ≡ g.last = cc in
-    (gs, sym (ap (λ (a : ℕ). range a l ∷ gs) p ∙ ap (λ (a : ℕ). range g.start a ∷ gs) q))
-
--- nothing is free from x on, or a first range is
+-- nothing is free from x on
 module _ (rs : List Range) (x : ℕ) where
   pub free-nothing : Nothing ≡ gap_of (free_from x rs) → free_from x rs ≡ []
   free-nothing e = gap_nothing (free_from x rs) e
-
-  pub free-first : (s l : ℕ) → At s l ≡ gap_of (free_from x rs) → First rs x s l
-  free-first s l e = let w = gap_at (free_from x rs) s l e in first_of rs x s l w.0 w.1

@@ -190,8 +190,8 @@ module _ (l : Ledger) (t : Table) (q : Rel l t) (i : ℕ) (m : Mapping) (h : i <
   new_known =
       Each-set (λ x. used x ≡ true → pages_by (who' x.backing) (record { number = l.time; pages = mapping_pages m } ∷ l.made) ≡ mapping_pages x) t.mappings i m
       (λ v.
-          let e : who' m.backing ≡ l.time = upd_same q.who m.backing l.time in
-          ap (λ w. pages_by w (record { number = l.time; pages = mapping_pages m } ∷ l.made)) e ∙ rw (eq-eqb l.time l.time refl) (omega (arith, pages-none l.time l.made q.past)))
+      let e : who' m.backing ≡ l.time = upd_same q.who m.backing l.time in
+      ap (λ w. pages_by w (record { number = l.time; pages = mapping_pages m } ∷ l.made)) e ∙ rw (eq-eqb l.time l.time refl) (omega (arith, pages-none l.time l.made q.past)))
       (Each-zip (λ x. used x ≡ true → pages_by (q.who x.backing) l.made ≡ mapping_pages x) (λ x. used x ≡ true → (eqb x.backing m.backing ≡ false) × (q.who x.backing < l.time))
       (λ x. used x ≡ true → pages_by (who' x.backing) (record { number = l.time; pages = mapping_pages m } ∷ l.made) ≡ mapping_pages x) t.mappings (λ x k e v. old x (k v) (e v).0 (e v).1) q.known
       (Each-zip (λ x. used x ≡ true → eqb x.backing m.backing ≡ false) (λ x. used x ≡ true → q.who x.backing < l.time) (λ x. used x ≡ true → (eqb x.backing m.backing ≡ false) × (q.who x.backing < l.time)) t.mappings

@@ -13,7 +13,8 @@ use Rattle.lists.specs.Search.{any, any-cong, any_at, any-mono, any-slot}
 use Rattle.lists.specs.Each.{Each, Each-of, Each-imp, Each-zip, Each-at, Each-any_false}
 use Rattle.lists.specs.Sums.{sum_of, sum_of-cong, sum_of-zero, count_of, count_of-any}
 use Rattle.lists.specs.Below.{sum_below, sum_below-cong, sum_below-zero, sum_below-only, sum_of-sum_below, count_below}
-use Rattle.ranges.specs.Ranges.{holds, span, span-count}
+use Rattle.ranges.specs.Ranges.{holds, span}
+use Rattle.ranges.proofs.Spans.{span-count}
 use Rattle.rules_table.specs.declared.Object.{Object}
 use Rattle.rules_table.specs.declared.Mapping.{Mapping}
 use Rattle.rules_table.specs.declared.Table.{Table}

@@ -14,7 +14,7 @@ use Rattle.ranges.specs.Ranges.{share, holds}
 use Rattle.alignment.specs.Pages.{smallest_page}
 use Rattle.alignment.specs.Highest.{highest}
 use Rattle.rangelists.specs.Listed.{reserved}
-use Rattle.freeranges.specs.Free.{free-same}
+use Rattle.freeranges.proofs.Free.{free-same}
 use Rattle.rules_table.specs.declared.Object.{Object}
 use Rattle.rules_table.specs.Records.{attached_to}
 use Rattle.rules_table.specs.Spaces.{page_for, alignment, reserved_for, reserved_of}

@@ -9,7 +9,8 @@ use Rattle.lists.specs.Tests.{by-test, and_left, and_right, and_both}
 use Rattle.lists.specs.Search.{any, any-slot, all-at, find-some, find-slot, find-any_false}
 use Rattle.lists.specs.Each.{Each-at}
 use Rattle.lists.specs.Sums.{find-only}
-use Rattle.ranges.specs.Ranges.{U64MAX, holds, holds_of, inside, inside-from, inside-upto, passes, last_of, last_of-fits, span}
+use Rattle.ranges.specs.Ranges.{U64MAX, holds, holds_of, inside, inside-from, inside-upto, passes, last_of, span}
+use Rattle.ranges.proofs.Spans.{last_of-fits}
 use Rattle.rules_table.specs.declared.Attachment.TheVariants.{Attached}
 use Rattle.rules_table.specs.declared.Kind.{Kind}
 use Rattle.rules_table.specs.declared.Kind.TheVariants.{Device}

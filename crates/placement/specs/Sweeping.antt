@@ -12,7 +12,8 @@ use Rattle.lists.specs.Search.{any, any-false_at, any-on, any-end}
 use Rattle.lists.specs.Each.{Each-of}
 use Rattle.lists.specs.Sums.{sum_of, sum_of-le, count_of, count_of-length}
 use Rattle.ranges.specs.declared.Range.{Range}
-use Rattle.ranges.specs.Ranges.{U64MAX, range, share, inside, passes, passes-false, last_of, last_of-fits, span}
+use Rattle.ranges.specs.Ranges.{U64MAX, range, share, inside, passes, passes-false, last_of, span}
+use Rattle.ranges.proofs.Spans.{last_of-fits}
 use Rattle.alignment.specs.declared.Spot.{Spot}
 use Rattle.alignment.specs.declared.Spot.TheVariants.{Nowhere, At}
 use Rattle.alignment.specs.Multiples.{multiple, round_up, Lowest, MultipleFrom, lowest_multiple, lowest-is}

@@ -1,2 +1,4 @@
 pub mod Ending
+pub mod Pages
 pub mod Paging
+pub mod Spans

@@ -1,10 +1,9 @@
 -- The pages of a backing (document 01, "Table"): the pages of 4,096 bytes that memory start to memory start + length - 1 touches.
-use Rattle.std.specs.Prelude.{ℕ, zero, suc, ◌+◌, ◌-◌, ◌*◌, ◌/◌, ◌≤◌, ◌<◌, ◌^◌, ◌≡◌, refl, Bool, ◌&&◌, leb, ltb, eqb}
-use Rattle.std.proofs.Common.{◌∙◌, arith, eqb-true, eq-eqb}
-use Rattle.lists.specs.Tests.{same_test, leb_and_iff}
-use Rattle.lists.specs.Below.{count_below, count_below-cong, count_below-run}
+use Rattle.std.specs.Prelude.{ℕ, zero, suc, ◌+◌, ◌-◌, ◌*◌, ◌/◌, ◌^◌, ◌≡◌, refl, Bool, eqb}
+use Rattle.std.proofs.Common.{arith, eqb-true, eq-eqb}
+use Rattle.lists.specs.Tests.{same_test}
 use Rattle.ranges.specs.declared.Range.{Range}
-use Rattle.ranges.specs.Ranges.{range, holds, share, holds-from, holds-upto, holds_of, share-ends}
+use Rattle.ranges.specs.Ranges.{range, holds, share, holds-from, holds-upto, holds_of}
 
 unfoldable pub pages_touched : ℕ → ℕ → ℕ
 pages_touched memory zero = 0
@@ -25,18 +24,6 @@ page-holds p a =
 -- a page holds one of the bytes
 unfoldable pub touched : ℕ → ℕ → ℕ → Bool
 touched memory length p = share (page p) (range memory (memory + (length - 1)))
-
--- THE LAW: it is the number of pages that hold one of those bytes, among the k first pages, where the bytes end by then
-pub pages-count : (m n k : ℕ) → 0 < n → m + n ≤ 4096 * k → count_below k (touched m n) ≡ pages_touched m n
-unfolding pages_touched touched page
-pages-count m zero k h f = absurd (omega arith)
-pages-count m (suc l) k h f =
-    omega (arith, count_below-cong k (touched m (suc l)) (λ p. leb (m / 4096) p && ltb p ((m + l) / 4096 + 1)) (λ p g. run p), count_below-run k (m / 4096) ((m + l) / 4096 + 1) (omega arith))
-  where
-    run : (p : ℕ) → touched m (suc l) p ≡ (leb (m / 4096) p && ltb p ((m + l) / 4096 + 1))
-    run p =
-        share-ends (page p) (range m (m + (suc l - 1))) (omega arith) (omega arith)
-        ∙ leb_and_iff (4096 * p) (m + (suc l - 1)) m (4096 * p + 4095) (m / 4096) p (suc p) ((m + l) / 4096 + 1) (λ a b. (omega arith, omega arith)) (λ a b. (omega arith, omega arith))
 
 -- 2 bytes from 4,095 touch 2 pages, and 2^40 bytes from 0 touch 2^28
 pub pages-edge : pages_touched 4095 2 ≡ 2

@@ -1,13 +1,10 @@
 -- Intervals with an inclusive last address (document 01, "Commands and their bytes"), said once for mappings, reserved ranges and allow lists.
--- A range whose start is above its last holds no address. The laws after each definition pin it to the addresses that a range holds.
-use Rattle.std.specs.Prelude.{ℕ, suc, ◌+◌, ◌-◌, ◌≤◌, ◌<◌, ◌^◌, min, max, ◌≡◌, Bool, true, false, ◌&&◌, ltb}
-use Rattle.std.proofs.Math.Path.{ap}
-use Rattle.std.proofs.Common.{◌∙◌}
+-- A range whose start is above its last holds no address. The laws after each definition, and in proofs/Spans, pin it to the addresses that a range holds.
+use Rattle.std.specs.Prelude.{ℕ, suc, ◌+◌, ◌-◌, ◌≤◌, min, max, ◌≡◌, Bool, true, false, ◌&&◌, ltb}
 use native.Mathlib.Omega.{arith}
 use Rattle.std.proofs.Math.Dec.{leb}
-use borrow.Author.Tests.{leb-true, ltb-false, le-leb}
+use borrow.Author.Tests.{leb-true, ltb-false, le-leb, lt-leb}
 use Rattle.lists.specs.Tests.{contrary, same_test, leb_iff, and_left, and_right, and_both}
-use Rattle.lists.specs.Below.{count_below, count_below-cong, count_below-run}
 use Rattle.ranges.specs.declared.Range.{Range}
 
 abbrev pub U64MAX : ℕ
@@ -76,6 +73,11 @@ module _ (r q : Range) where
       let n = leb-true q.start r.last (and_right (leb r.start q.last) (leb q.start r.last) e) in
       le-leb (shared_start r q) (shared_last r q) (omega arith))
 
+-- two neighbours share none
+pub neighbours_apart : (s a l : ℕ) → share (range s a) (range (suc a) l) ≡ false
+unfolding share shared_start shared_last
+neighbours_apart s a l = lt-leb (shared_start (range s a) (range (suc a) l)) (shared_last (range s a) (range (suc a) l)) (omega arith)
+
 -- ---- r lies wholly inside q
 
 unfoldable pub inside : Range → Range → Bool
@@ -121,10 +123,6 @@ module _ (s n : ℕ) where
   unfolding passes
   passes-false e = ltb-false U64MAX (s + (n - 1)) e
 
-  pub last_of-fits : passes s n ≡ false → last_of s n ≡ s + (n - 1)
-  unfolding last_of
-  last_of-fits e = omega (arith, passes-false e)
-
   pub last_of-max : last_of s n ≤ U64MAX
   unfolding last_of
   last_of-max = omega arith
@@ -132,19 +130,3 @@ module _ (s n : ℕ) where
   pub span-some : s ≤ U64MAX → s ≤ last_of s n
   unfolding last_of
   span-some h = omega arith
-
-  pub span_last : passes s n ≡ false → span s n ≡ range s (s + (n - 1))
-  unfolding span
-  span_last e = ap (range s) (last_of-fits e)
-
-  -- from start on and below start + length
-  pub holds-span : (a : ℕ) → 0 < n → passes s n ≡ false → holds (span s n) a ≡ (leb s a && ltb a (s + n))
-  unfolding holds
-  holds-span a h e = rw (span_last e) (ap (λ (b : Bool). leb s a && b) (leb_iff a (s + (n - 1)) (suc a) (s + n) (λ k. omega arith) (λ k. omega arith)))
-
-  -- so it holds length addresses
-  pub span-count : 0 < n → passes s n ≡ false → count_below (2 ^ 64) (holds (span s n)) ≡ n
-  span-count h e =
-      count_below-cong (2 ^ 64) (holds (span s n)) (λ a. leb s a && ltb a (s + n)) (λ a k. holds-span a h e)
-      ∙ count_below-run (2 ^ 64) s (s + n) (omega (arith, passes-false e))
-      ∙ (let z : s + n - s ≡ n = omega arith in z)

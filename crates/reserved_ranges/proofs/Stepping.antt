@@ -6,7 +6,7 @@ use native.Mathlib.Omega.{arith}
 use Rattle.ranges.specs.declared.Range.{Range}
 use Rattle.ranges.specs.Ranges.{U64MAX, range}
 use Rattle.freeranges.specs.Free.{U64END, free_from}
-use Rattle.freeranges.specs.From.{skipped, none-past, first_run}
+use Rattle.freeranges.proofs.From.{skipped, none-past, first_run}
 use Rattle.freeranges.specs.Scan.{cover_of, cover_clear, cover_from, cover_held, run_end, run_end-most}
 use Rattle.freeranges.specs.Scan.{run_end-from, run_end-free, run_end-stop, gap_of, gap_none, gap_first}
 use Rattle.freeranges.specs.declared.Cover.{Cover}

@@ -10,9 +10,10 @@ use Rattle.lists.specs.Tests.{by-test}
 use Rattle.ranges.specs.declared.Range.{Range}
 use Rattle.ranges.specs.Ranges.{U64MAX, range}
 use Rattle.freeranges.specs.Free.{U64END, free_from, free_ranges}
-use Rattle.freeranges.specs.From.{First, none-past}
-use Rattle.freeranges.specs.Fewest.{free-length}
-use Rattle.freeranges.specs.Scan.{gap_of, free-nothing, free-first}
+use Rattle.freeranges.specs.From.{First}
+use Rattle.freeranges.proofs.From.{none-past, free-first}
+use Rattle.freeranges.proofs.Fewest.{free-length}
+use Rattle.freeranges.specs.Scan.{gap_of, free-nothing}
 use Rattle.freeranges.specs.declared.Gap.{Gap}
 use Rattle.freeranges.specs.declared.Gap.TheVariants.{Nothing, At}
 use Rattle.freeranges.specs.Written.{put_range, put_ranges, length-put_at}

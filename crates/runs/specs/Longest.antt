@@ -14,7 +14,8 @@ use Rattle.lists.specs.Search.{any, any-cons, any_none, any-mono}
 use Rattle.lists.specs.Each.{Each, Each-imp}
 use Rattle.lists.specs.Update.{any-map}
 use Rattle.ranges.specs.declared.Range.{Range}
-use Rattle.ranges.specs.Ranges.{U64MAX, range, share, shared_start, shared_last, inside, inside-from, inside-upto, passes, passes-false, last_of, last_of-max, span, span_last}
+use Rattle.ranges.specs.Ranges.{U64MAX, range, share, shared_start, shared_last, inside, inside-from, inside-upto, passes, passes-false, last_of, last_of-max, span}
+use Rattle.ranges.proofs.Spans.{span_last}
 use Rattle.alignment.specs.declared.Spot.{Spot}
 use Rattle.alignment.specs.declared.Spot.TheVariants.{Nowhere, At}
 use Rattle.alignment.specs.Multiples.{multiple, round_up, Lowest, lowest_multiple, spot_of}

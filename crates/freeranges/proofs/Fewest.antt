@@ -8,7 +8,8 @@ use Rattle.lists.specs.Sums.{count_of, sum_of, count_of-length, sum_of-le}
 use Rattle.lists.specs.Each.{Each-of}
 use Rattle.ranges.specs.declared.Range.{Range}
 use Rattle.ranges.specs.Ranges.{holds, holds-from, holds-upto, holds_of}
-use Rattle.freeranges.specs.Free.{U64END, held, between, end_below, start_above, around, without, free_from, free_ranges, Spaced, held-nil, held_cons, none_below, past_first, spaced-free_from, free-has, free-spaced}
+use Rattle.freeranges.specs.Free.{U64END, held, between, end_below, start_above, around, without, free_from, free_ranges, Spaced, held-nil, held_cons, none_below, past_first}
+use Rattle.freeranges.proofs.Free.{spaced-free_from, free-has, free-spaced}
 
 -- ---- at most one more than are reserved
 
