@@ -5,11 +5,11 @@ use Rattle.object_rules.proofs.allow_rest.Goals as goal
 pub returns : goal.returns
 unfolding allow_rest
 returns c = rw (
-      c.both.ensures,
-      c.zero_from-2.ensures,
-      c.zero_from.ensures,
-      c.ends_at.ensures.0,
-      c.froms_at.ensures.0,
-      c.used-n.ensures,
-      c.allows_at.ensures,
-    )
+  c.both.ensures,
+  c.zero_from-2.ensures,
+  c.zero_from.ensures,
+  c.ends_at.ensures.0,
+  c.froms_at.ensures.0,
+  c.used-n.ensures,
+  c.allows_at.ensures,
+)

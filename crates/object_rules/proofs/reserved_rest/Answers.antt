@@ -5,11 +5,11 @@ use Rattle.object_rules.proofs.reserved_rest.Goals as goal
 pub returns : goal.returns
 unfolding reserved_rest
 returns c = rw (
-      c.both.ensures,
-      c.zero_from-2.ensures,
-      c.zero_from.ensures,
-      c.lasts_at.ensures.0,
-      c.starts_at.ensures.0,
-      c.used-n.ensures,
-      c.reserves_at.ensures,
-    )
+  c.both.ensures,
+  c.zero_from-2.ensures,
+  c.zero_from.ensures,
+  c.lasts_at.ensures.0,
+  c.starts_at.ensures.0,
+  c.used-n.ensures,
+  c.reserves_at.ensures,
+)
