@@ -13,7 +13,7 @@
 # whose clang keeps the module before it compiles it as ever; that has to give the same archive. The module is compiled once more for each kernel, as the kit does it but for
 #   - the attributes of its functions: no red zone, general registers only, and the passes of the check kept apart;
 #   - the stack: a multiple of 8 is enough on x86-64;
-#   - the target, and there how C gives back 32 bits (aarch64, riscv64).
+#   - the target, and there how C gives back 32 bits (aarch64, riscv64) and loops that stay loops (aarch64).
 set -euo pipefail
 cd "$(dirname "$0")/.."
 export PATH="/opt/rattle/bin:$PATH"
@@ -152,6 +152,7 @@ module() {
 
 # What the compiler is told of each kernel: its target, its registers, and which edits the module needs beside its attributes.
 target() { # ARCH
+  loops=''
   case $1 in
   x86_64)
     triple=x86_64-unknown-linux-gnu words=-march=x86-64
@@ -162,6 +163,8 @@ target() { # ARCH
   aarch64) # also where the kernel lets no load be unaligned
     triple=aarch64-unknown-none-elf words=-mgeneral-regs-only
     registers='"target-features"="-neon,-fp-armv8,+strict-align"'
+    # eight turns of the search of an allow list laid out one behind the other take 800 bytes of stack more
+    loops=-fno-unroll-loops
     ;;
   riscv64)
     triple=riscv64-unknown-none-elf words='-march=rv64imac -mabi=lp64'
@@ -216,7 +219,7 @@ archive() { # ARCH FOLDER
   mkdir -p "$2"
   # shellcheck disable=SC2086
   (cd "$work" && rm -f libiommufd.a &&
-    "$kit/toolchain/bin/clang" --target=$triple $words $compile kernel.ll -o iommufd.o $optimise &&
+    "$kit/toolchain/bin/clang" --target=$triple $words $compile kernel.ll -o iommufd.o $optimise $loops &&
     "$kit/toolchain/bin/clang" --target=$triple $words --no-default-config -c -x assembler version.s -o version.o &&
     "$kit/toolchain/bin/llvm-ar" rcsD libiommufd.a iommufd.o version.o)
   mv "$work/libiommufd.a" "$2/"
