@@ -121,7 +121,7 @@ libraries() {
   fi
 }
 
-# How the kit compiles; the archives differ from it in the target alone.
+# How the kit compiles; the archives differ from it in the target, and on aarch64 in what becomes of loops.
 compile="-mllvm -no-trap-after-noreturn -ffunction-sections -fdata-sections -mllvm -trap-unreachable -mllvm -no-x86-call-frame-opt -mllvm -disable-machine-licm -mllvm -disable-postra-machine-licm -mllvm -sink-common-insts=false --no-default-config -no-canonical-prefixes -fintegrated-cc1 -fno-crash-diagnostics -Werror -c -x ir"
 optimise="-fPIC -O3"
 
