@@ -439,8 +439,8 @@ def faults(texts):
     cases = [
         ('a contract that cites a definition of the code', slip(own, (head, 'ghost use Rattle.lent_edit.specs.Edits.{object_of};\n' + head), ('result ≡ fresh_answer limit', 'result ≡ object_of fresh_answer limit'))),
         ('a rule that cites a definition of the code', slip(answers, ('use Rattle.wire.', 'use Rattle.lent_edit.specs.Edits.{object_of}\nuse Rattle.wire.'), ('table = applied t e }', 'table = object_of t e }'))),
-        ('a theorem that cites a definition of the code', slip('crates/laws_refusal/specs/BadTable.antt', ('pub bad-117 : (c : Call)', 'pub bad-117 : (c : command_in)'), ('use Rattle.rules_history', 'use Rattle.iommufd.specs.Deciding.{command_in}\nuse Rattle.rules_history'))),
-        ('a theorem of proofs/ that cites a definition of the code', slip('crates/laws_reasons/proofs/Says.antt', ('pub told-so : (b : Board)', 'pub told-so : (b : command_in)'), ('use Rattle.rules_index', 'use Rattle.iommufd.specs.Deciding.{command_in}\nuse Rattle.rules_index'))),
+        ('a theorem that cites a definition of the code', slip('crates/laws_refusal/specs/BadTable.antt', ('pub bad-117 : (c : Call)', 'pub bad-117 : (c : Left)'), ('use Rattle.rules_history', 'use Rattle.iommufd.specs.Deciding.{Left}\nuse Rattle.rules_history'))),
+        ('a theorem of proofs/ that cites a definition of the code', slip('crates/laws_reasons/proofs/Says.antt', ('pub told-so : (b : Board)', 'pub told-so : (b : Left)'), ('use Rattle.rules_index', 'use Rattle.iommufd.specs.Deciding.{Left}\nuse Rattle.rules_index'))),
         ('a function that is gone', slip(own, ('pub fn detach(', 'pub fn let_go('))),
         ('a function without a contract', slip(own, (clause, clause.replace('ensures', 'promises')))),
         ('a function without a contract, before one that has it', slip(own, ('    ensures { result ≡ fresh_answer limit }\n{', '{'), ('-> Answer\n{', '-> Answer {'))),

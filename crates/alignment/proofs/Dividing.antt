@@ -2,12 +2,14 @@
 use Prim.Native.Nat.{ℕ, zero, suc, ◌+◌, ◌*◌, ◌%◌, ◌^◌, ◌<◌}
 use mathlib.Core.Path.{◌≡◌, refl, sym, ap, ◌∙◌}
 use mathlib.Core.Bool.{Bool, true, false, ◌&&◌}
-use native.Mathlib.Nat.{mod-zero, mod-eq_of_lt, one-mul}
+use native.Mathlib.Nat.{mod-eq_of_lt, one-mul}
 use native.Mathlib.Omega.{arith}
 use lib.Count.{count_trailing_zeros}
 use lib.Dec.{eqb}
 use lib.Pow.{pow-lt}
 use borrow.Author.Tests.{eqb-true, eq-eqb}
+use Rattle.std.specs.Prelude.{IsTrue, ◌↔◌}
+use Rattle.std.proofs.lemmas.Grind.{common_steps}
 use Rattle.lists.specs.Tests.{same_test, and_left, and_right, and_both}
 use Rattle.alignment.specs.Multiples.{multiple, multiple-true, multiple-of, fits, fits-length}
 use Rattle.alignment.specs.Pages.{smallest_page, trailing_lt}
@@ -16,13 +18,9 @@ pub of_page : (a x : ℕ) → a ≡ 4096 → eqb (x % 4096) 0 ≡ multiple a x
 unfolding multiple
 of_page a x e = rw e
 
-pub of_zero : (a x : ℕ) → a ≡ 0 → eqb x 0 ≡ multiple a x
+pub of_rest : (a x : ℕ) (b : Bool) → (IsTrue b ↔ (x % a ≡ 0)) → b ≡ multiple a x
 unfolding multiple
-of_zero a x z = rw z (ap (λ (r : ℕ). eqb r 0) (sym (mod-zero x)))
-
-pub of_some : (a x : ℕ) → eqb (x % a) 0 ≡ multiple a x
-unfolding multiple
-of_some a x = refl
+of_rest a x b h = grind (arith, common_steps)
 
 module _ (a s n : ℕ) where
   pub start_off : multiple a s ≡ false → false ≡ fits a s n

@@ -1,14 +1,11 @@
 -- Multiples of an alignment (document 01, MAP: "address or address + length not a multiple of the alignment"), and the lowest from a number on.
-use Rattle.std.specs.Prelude.{ℕ, ◌+◌, ◌-◌, ◌*◌, ◌/◌, ◌%◌, ◌≤◌, ◌<◌, ◌≡◌, refl, Bool, true, false, ◌&&◌, cond, ltb, eqb}
+use Rattle.std.specs.Prelude.{ℕ, ◌+◌, ◌-◌, ◌*◌, ◌/◌, ◌%◌, ◌≤◌, ◌<◌, ◌≡◌, refl, Bool, true, false, ◌&&◌, cond, ltb, eqb, Option, None, Some}
 use Rattle.std.proofs.Common.{sym, ◌∙◌, ⊎_elim, mod-lt, add-mul, one-mul, div-add-mod', mod-eq_of_lt, eq-zero-or-pos, mul-le-mul_right, lt_of_mul-lt-mul_right}
 use Rattle.std.proofs.Math.Path.{ap}
-use Rattle.std.proofs.Math.Option.{Option, none, some}
 use Rattle.std.proofs.Math.Nat.{mod-zero, mod_self, mod-add-mod, mul-mod_left}
 use native.Mathlib.Omega.{arith}
 use borrow.Author.Tests.{eqb-true, eqb-false, eq-eqb, ltb-true, ltb-false, lt-ltb, le-ltb}
 use Rattle.lists.specs.Tests.{by-test, contrary}
-use Rattle.alignment.specs.declared.Spot.{Spot}
-use Rattle.alignment.specs.declared.Spot.TheVariants.{Nowhere, At}
 
 -- x is a multiple of a
 unfoldable pub multiple : ℕ → ℕ → Bool
@@ -44,26 +41,15 @@ fits-length a s n = by-test (multiple a s) (λ e. rw e (multiple-add a s n e)) (
 
 -- ---- the lowest number with a property, or that there is none: a relation that fixes the answer
 
-abbrev pub Lowest : (ℕ → Type 0) → Spot → Type 0
-Lowest P (At x) = P x × ((y : ℕ) → P y → x ≤ y)
-Lowest P Nowhere = (y : ℕ) → P y → ⊥
+abbrev pub Lowest : (ℕ → Type 0) → Option ℕ → Type 0
+Lowest P (Some x) = P x × ((y : ℕ) → P y → x ≤ y)
+Lowest P None = (y : ℕ) → P y → ⊥
 
-pub lowest-unique : (P : ℕ → Type 0) (r s : Spot) → Lowest P r → Lowest P s → r ≡ s
-lowest-unique P Nowhere Nowhere h k = refl
-lowest-unique P Nowhere (At y) h k = absurd (h y k.0)
-lowest-unique P (At x) Nowhere h k = absurd (k x h.0)
-lowest-unique P (At x) (At y) h k = let e : x ≡ y = omega (arith, h.1 y k.0, k.1 x h.0) in ap At e
-
--- what was looked for, as the code's enum has it
-abbrev pub spot_of : Option ℕ → Spot
-spot_of none = Nowhere
-spot_of (some x) = At x
-
-pub lowest-one : (P : ℕ → Type 0) (r s : Option ℕ) → Lowest P (spot_of r) → Lowest P (spot_of s) → r ≡ s
-lowest-one P none none h k = refl
-lowest-one P none (some y) h k = absurd (h y k.0)
-lowest-one P (some x) none h k = absurd (k x h.0)
-lowest-one P (some x) (some y) h k = let e : x ≡ y = omega (arith, h.1 y k.0, k.1 x h.0) in ap some e
+pub lowest-unique : (P : ℕ → Type 0) (r s : Option ℕ) → Lowest P r → Lowest P s → r ≡ s
+lowest-unique P None None h k = refl
+lowest-unique P None (Some y) h k = absurd (h y k.0)
+lowest-unique P (Some x) None h k = absurd (k x h.0)
+lowest-unique P (Some x) (Some y) h k = let e : x ≡ y = omega (arith, h.1 y k.0, k.1 x h.0) in ap Some e
 
 -- y is a multiple of a, at or above x and below 2^64
 pub record MultipleFrom (a x y : ℕ) : Type 0 where
@@ -76,8 +62,8 @@ unfoldable pub round_up : ℕ → ℕ → ℕ
 round_up a x = x + (a - x % a) % a
 
 -- the lowest multiple of a from x on, if it is one and below 2^64 (of 0 only 0 is a multiple)
-unfoldable pub lowest_multiple : ℕ → ℕ → Spot
-lowest_multiple a x = cond (multiple a (round_up a x) && ltb (round_up a x) 0x1_0000_0000_0000_0000) (At (round_up a x)) Nowhere
+unfoldable pub lowest_multiple : ℕ → ℕ → Option ℕ
+lowest_multiple a x = cond (multiple a (round_up a x) && ltb (round_up a x) 0x1_0000_0000_0000_0000) (Some (round_up a x)) None
 
 -- where x is no multiple, the next one is the lowest from x on
 module _ (a x : ℕ) (pos : 0 < a) where
@@ -100,11 +86,11 @@ module _ (a x : ℕ) (pos : 0 < a) where
   unfolding round_up
   round_up-next e = ap (λ (r : ℕ). x + r) (mod-eq_of_lt (omega (arith, multiple-false a x e)))
 
-  pub lowest-next : multiple a x ≡ false → x + (a - x % a) < 0x1_0000_0000_0000_0000 → At (x + (a - x % a)) ≡ lowest_multiple a x
+  pub lowest-next : multiple a x ≡ false → x + (a - x % a) < 0x1_0000_0000_0000_0000 → Some (x + (a - x % a)) ≡ lowest_multiple a x
   unfolding lowest_multiple
   lowest-next e h = rw (round_up-next e, next_multiple, lt-ltb (x + (a - x % a)) 0x1_0000_0000_0000_0000 h)
 
-  pub lowest-past : multiple a x ≡ false → 0x1_0000_0000_0000_0000 ≤ x + (a - x % a) → Nowhere ≡ lowest_multiple a x
+  pub lowest-past : multiple a x ≡ false → 0x1_0000_0000_0000_0000 ≤ x + (a - x % a) → None ≡ lowest_multiple a x
   unfolding lowest_multiple
   lowest-past e h = rw (round_up-next e, next_multiple, le-ltb (x + (a - x % a)) 0x1_0000_0000_0000_0000 h)
 
@@ -126,11 +112,11 @@ module _ (a x : ℕ) where
       let s : x + 0 ≡ x = omega arith in
       ap (λ (r : ℕ). x + (a - r) % a) (multiple-true a x e) ∙ ap (λ (r : ℕ). x + r % a) z ∙ ap (λ (r : ℕ). x + r) (mod_self a) ∙ s
 
-  pub lowest-here : multiple a x ≡ true → x < 0x1_0000_0000_0000_0000 → At x ≡ lowest_multiple a x
+  pub lowest-here : multiple a x ≡ true → x < 0x1_0000_0000_0000_0000 → Some x ≡ lowest_multiple a x
   unfolding lowest_multiple
   lowest-here e h = rw (round_up-here e, e, lt-ltb x 0x1_0000_0000_0000_0000 h)
 
-  pub lowest-zero : a ≡ 0 → multiple a x ≡ false → Nowhere ≡ lowest_multiple a x
+  pub lowest-zero : a ≡ 0 → multiple a x ≡ false → None ≡ lowest_multiple a x
   unfolding lowest_multiple round_up
   lowest-zero z e = rw (same, e)
     where

@@ -5,15 +5,6 @@ ghost use Rattle.std.specs.Prelude.{◌≡◌, ◌<◌, ◌^◌};
 ghost use Rattle.alignment.specs.Multiples.{multiple, fits, lowest_multiple};
 ghost use Rattle.alignment.specs.Pages.{smallest_page};
 
-const U64MAX: u64 = 0xFFFF_FFFF_FFFF_FFFF;
-
-// An address that was looked for.
-#[derive(Clone, Copy)]
-pub enum Spot {
-    Nowhere,
-    At(u64),
-}
-
 // Whether x is a multiple of a. Of 0 only 0 is one. The page that nearly every device has is asked apart, since a remainder by a literal needs no division.
 pub fn is_multiple(a: u64, x: u64) -> bool
     ensures { result ≡ multiple a x }
@@ -21,10 +12,7 @@ pub fn is_multiple(a: u64, x: u64) -> bool
     if a == 4096 {
         return x % 4096 == 0;
     }
-    if a == 0 {
-        return x == 0;
-    }
-    x % a == 0
+    x.is_multiple_of(a)
 }
 
 // Whether start and start + length are multiples of a, where the sum may be 2^64. For the page that nearly every device has, one test does.
@@ -34,27 +22,20 @@ pub fn is_fit(a: u64, start: u64, length: u64) -> bool
     if a == 4096 {
         return start % 4096 + length % 4096 == 0;
     }
-    if !is_multiple(a, start) {
-        return false;
-    }
-    is_multiple(a, length)
+    is_multiple(a, start) && is_multiple(a, length)
 }
 
 // The lowest multiple of a from x on, if there is one below 2^64.
-pub fn lowest_multiple(a: u64, x: u64) -> Spot
+pub fn lowest_multiple(a: u64, x: u64) -> Option<u64>
     ensures { result ≡ lowest_multiple a x }
 {
     if is_multiple(a, x) {
-        return Spot::At(x);
+        return Some(x);
     }
     if a == 0 {
-        return Spot::Nowhere;
+        return None;
     }
-    let lack = a - x % a;
-    if U64MAX - x < lack {
-        return Spot::Nowhere;
-    }
-    Spot::At(x + lack)
+    x.checked_add(a - x % a)
 }
 
 // The lowest set bit of a page-size bitmap. It is 1 for 0, so that every page is a power of two.
@@ -64,5 +45,5 @@ pub fn smallest_page(bitmap: u64) -> u64
     if bitmap == 0 {
         return 1;
     }
-    1u64 << u64::trailing_zeros(bitmap)
+    1u64 << bitmap.trailing_zeros()
 }

@@ -1,6 +1,6 @@
 -- The pass over the records that marks the first record of each backing.
+use Rattle.std.specs.Prelude.{Option, None, Some}
 use Rattle.std.proofs.Common.{◌≡◌, ℕ, ◌+◌, ◌-◌, ◌*◌, ◌^◌, ◌<◌, ◌≤◌, min, Bool, true, false, cond, not, eqb, List, [], ◌∷◌, ◌++◌, length, get_or, take, set, replicate, sym, refl, ap, ◌∙◌, arith, length-set, length-take, take_all, get_or-set_other, get_or-take, get_or-set_same, ne_eqb, eqb-true}
-use mathlib.Core.Option.{Option, none, some}
 use lib.ListN.{length-replicate, get_or-replicate}
 use borrow.Author.Tests.{eqb-false}
 use Rattle.lists.specs.Tests.{by-test, contrary, only_if, or_neither, and_not_right}
@@ -26,8 +26,8 @@ unfolding mark_after
 mark_own p xs a e = go (seek p 0 xs) refl
   where
     go : (o : Option ℕ) → seek p 0 xs ≡ o → mark_after (mark_of (seek p 0 xs)) (length xs) ≡ mark_of (seek p 0 (xs ++ a ∷ []))
-    go none f = rw (f, seek-append_none p 0 xs (a ∷ []) (seek-none p 0 xs f), seek-cons_true p (0 + length xs) a [] e) (omega arith)
-    go (some k) f = rw (f, seek-append_some p 0 xs (a ∷ []) k f, ne_eqb (k + 1) 0 (λ z. omega (arith, z)))
+    go None f = rw (f, seek-append_none p 0 xs (a ∷ []) (seek-none p 0 xs f), seek-cons_true p (0 + length xs) a [] e) (omega arith)
+    go (Some k) f = rw (f, seek-append_some p 0 xs (a ∷ []) k f, ne_eqb (k + 1) 0 (λ z. omega (arith, z)))
 
 -- one more record is counted where it passes
 count-one : (p : Mapping → Bool) (xs : List Mapping) (m : Mapping) (b : Bool) → p m ≡ b → count_of p (xs ++ m ∷ []) ≡ count_of p xs + only_if b 1
@@ -109,8 +109,8 @@ module _ (ms : List Mapping) (i count sum : ℕ) (marks : List ℕ) (s : Seen ms
   leader-most = rw seen-mark (go (seek (backs (here ms i).backing) 0 (take i ms)) refl)
     where
       go : (o : Option ℕ) → seek (backs (here ms i).backing) 0 (take i ms) ≡ o → cond (eqb (mark_of o) 0) i (mark_of o - 1) ≤ i
-      go none e = omega arith
-      go (some k) e = rw (ne_eqb (k + 1) 0 (λ z. omega (arith, z))) (omega (arith, (seek-some_lt (backs (here ms i).backing) 0 (take i ms) k e).1, length_seen))
+      go None e = omega arith
+      go (Some k) e = rw (ne_eqb (k + 1) 0 (λ z. omega (arith, z))) (omega (arith, (seek-some_lt (backs (here ms i).backing) 0 (take i ms) k e).1, length_seen))
 
   -- what was asked of the record at place k, in the words of the definition
   asked : (k : ℕ) (r t : Bool) → k ≡ leader_place (mark_here ms marks i) i → r ≡ differ (get_or ms k zero_mapping) (here ms i) → r ≡ t → differ (leader ms marks i) (here ms i) ≡ t
@@ -128,8 +128,8 @@ module _ (ms : List Mapping) (i count sum : ℕ) (marks : List ℕ) (s : Seen ms
   mark_none = rw seen-mark (go (seek (backs (here ms i).backing) 0 (take i ms)) refl)
     where
       go : (o : Option ℕ) → seek (backs (here ms i).backing) 0 (take i ms) ≡ o → eqb (mark_of o) 0 ≡ not (any (backs (here ms i).backing) (take i ms))
-      go none e = rw (seek-none (backs (here ms i).backing) 0 (take i ms) e)
-      go (some k) e =
+      go None e = rw (seek-none (backs (here ms i).backing) 0 (take i ms) e)
+      go (Some k) e =
           by-test (any (backs (here ms i).backing) (take i ms))
           (λ t. rw t (ne_eqb (k + 1) 0 (λ z. omega (arith, z))))
           (λ t. let f = seek-any_false (backs (here ms i).backing) 0 (take i ms) t in let z : ◌≡◌ {A = ℕ} 0 1 = cc in absurd (omega arith))
@@ -139,8 +139,8 @@ module _ (ms : List Mapping) (i count sum : ℕ) (marks : List ℕ) (s : Seen ms
   none_differ d = go (seek (backs (here ms i).backing) 0 (take i ms)) refl (sym (rw seen-mark) ∙ d)
     where
       go : (o : Option ℕ) → seek (backs (here ms i).backing) 0 (take i ms) ≡ o → differ (get_or ms (cond (eqb (mark_of (seek (backs (here ms i).backing) 0 (take i ms))) 0) i (mark_of (seek (backs (here ms i).backing) 0 (take i ms)) - 1)) zero_mapping) (here ms i) ≡ false → any (λ y. differ y (here ms i)) (take i ms) ≡ false
-      go none e f = agree-none (take i ms) (here ms i) (seek-none (backs (here ms i).backing) 0 (take i ms) e)
-      go (some k) e f =
+      go None e f = agree-none (take i ms) (here ms i) (seek-none (backs (here ms i).backing) 0 (take i ms) e)
+      go (Some k) e f =
           let l : k < i = omega (arith, (seek-some_lt (backs (here ms i).backing) 0 (take i ms) k e).1, length_seen) in
           let z : k + 1 - 1 ≡ k = omega arith in
           agree-first (take i ms) s.numbers (here ms i) k s.agree e

@@ -1,6 +1,5 @@
 -- What the pass tells, given the alignment of each space by its id. Of good records: how many are in use, the charge, and the first record of each backing.
-use Rattle.std.specs.Prelude.{◌≡◌, ℕ, ◌+◌, ◌≤◌, Bool, true, cond, ◌&&◌, List, ◌==◌, slice_index}
-use Rattle.std.proofs.Math.Option.{Option, none, some}
+use Rattle.std.specs.Prelude.{◌≡◌, ℕ, ◌+◌, ◌≤◌, Bool, true, cond, ◌&&◌, List, ◌==◌, slice_index, Option, None, Some}
 use Rattle.lists.specs.Search.{all, seek}
 use Rattle.lists.specs.Sums.{count_of}
 use Rattle.rules_table.specs.declared.Mapping.{Mapping}
@@ -12,8 +11,8 @@ use Rattle.check_mappings.specs.declared.Pass.{Pass}
 
 -- the mark of a backing: one more than the place of its first record
 abbrev pub mark_of : Option ℕ → ℕ
-mark_of none = 0
-mark_of (some k) = k + 1
+mark_of None = 0
+mark_of (Some k) = k + 1
 
 -- the alignment of the space that a record names, 0 where it names none
 unfoldable pub page_of : List ℕ → ℕ → ℕ

@@ -34,14 +34,12 @@ fn skip_blank(ws: &[[u64; 5]], from: usize) -> usize
     requires { (from ≤ 128) × (length ws.now ≡ 128) }
     ensures { Next (records_of ws.now) from result }
 {
-    let mut j = from;
-    while j < 128 {
+    for j in from..128 {
         if !layout_mappings::is_empty(ws, j) {
             return j;
         }
-        j += 1;
     }
-    j
+    128
 }
 
 // The same. Most records that are asked for are in use, and of such a one a single word is read, not five.
@@ -49,10 +47,8 @@ fn next_used(ws: &[[u64; 5]], from: usize) -> usize
     requires { (from ≤ 128) × (length ws.now ≡ 128) }
     ensures { Next (records_of ws.now) from result }
 {
-    if from < 128 {
-        if layout_mappings::is_used(ws, from) {
-            return from;
-        }
+    if from < 128 && layout_mappings::is_used(ws, from) {
+        return from;
     }
     skip_blank(ws, from)
 }
@@ -83,11 +79,11 @@ fn is_right(page: u64, m: Mapping) -> bool
     if 128 < m.backing {
         return false;
     }
-    let n = std::num::wrapping_sub_u64(m.length, 1);
+    let n = m.length.wrapping_sub(1);
     if 0xFF_FFFF_FFFF < n {
         return false;
     }
-    let top = ranges::U64MAX - n;
+    let top = u64::MAX - n;
     if top < m.address {
         return false;
     }
@@ -102,10 +98,7 @@ pub fn page_of(pages: &[u64], space: u32) -> u64
     requires { length pages.now ≡ 33 }
     ensures { result ≡ page_of pages.now space }
 {
-    if space == 0 {
-        return 0;
-    }
-    if 32 < space {
+    if space == 0 || 32 < space {
         return 0;
     }
     pages[(space % 64) as usize]
@@ -133,7 +126,7 @@ fn standing_of(ws: &[[u64; 5]], mark: u8, i: usize, m: Mapping) -> Standing
             mark: (i + 1) as u8,
         };
     }
-    let leader = layout_mappings::record(ws, (mark - 1) as usize);
+    let leader = layout_mappings::record(ws, usize::from(mark - 1));
     Standing {
         strays: records::differs(leader, m),
         pages: 0,

@@ -7,22 +7,13 @@ use native.Mathlib.Omega.{arith}
 use lib.Dec.{ltb, eqb}
 use lib.ListN.{length, get_or, set, drop, replicate, get_or-replicate, drop_of_length-le, get_or-eq_default}
 use lib.Seq.{get_or-set_same, get_or-set_other}
-use borrow.Author.Tests.{le-leb, lt-leb, ltb-true, ltb-false, eqb-true, eqb-false}
+use borrow.Author.Tests.{ltb-true, ltb-false, eqb-true, eqb-false}
 use Rattle.lists.specs.Tests.{by-test}
 use Rattle.lists.specs.Search.{drop_turn}
-use Rattle.rules_table.specs.declared.Attachment.{Attachment}
-use Rattle.rules_table.specs.declared.Attachment.TheVariants.{Attached}
 use Rattle.rules_table.specs.declared.Object.{Object}
 use Rattle.rules_table.specs.Records.{zero_object, free_object}
 use Rattle.table.specs.Checked.{objects_ok}
-use Rattle.check_objects.specs.Pages.{Pages, slot_by, slot_of, ask_of, asks, asked, asked-page, page_at-past}
-
-module _ (h : ℕ) (a : Attachment) (e : a ≡ Attached h) where
-  pub slot-in : h ≤ 32 → h ≡ slot_by a
-  slot-in l = rw (e, le-leb h 32 l)
-
-  pub slot-out : 32 < h → 0 ≡ slot_by a
-  slot-out l = rw (e, lt-leb h 32 l)
+use Rattle.check_objects.specs.Pages.{Pages, slot_of, ask_of, asks, asked, asked-page, page_at-past}
 
 -- before object i: what a slot has, and what the objects from i on ask of it, come to what all ask
 pub record Kept (os : List Object) (i : ℕ) (pages : List ℕ) : Type 0 where

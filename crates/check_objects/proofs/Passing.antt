@@ -1,7 +1,8 @@
 -- What one slot tells; and one pass over the slots: what was seen before slot i and what is left from i on answer for the whole.
+use Rattle.std.specs.Prelude.{Option, None, Some}
 use Prim.Native.Nat.{ℕ, zero, suc, ◌+◌, ◌-◌, ◌≤◌, ◌<◌, max}
 use mathlib.Core.Path.{◌≡◌, refl, sym, ap, subst, ◌∙◌}
-use mathlib.Core.Bool.{Bool, true, false}
+use mathlib.Core.Bool.{true, false}
 use mathlib.Core.List.{List}
 use native.Mathlib.Omega.{arith}
 use lib.Dec.{ltb}
@@ -10,9 +11,6 @@ use borrow.Author.Tests.{ltb-true, ltb-false}
 use Rattle.lists.specs.Tests.{by-test, contrary}
 use Rattle.lists.specs.Search.{all, seek, seek_found, seek-on, seek-end}
 use Rattle.wire.specs.Fields.{zeros}
-use Rattle.rangelists.specs.declared.Found.{Found}
-use Rattle.rangelists.specs.declared.Found.TheVariants.{Nothing, At}
-use Rattle.rangelists.specs.Listed.{found}
 use Rattle.rules_table.specs.declared.Kind.{Kind}
 use Rattle.rules_table.specs.declared.Object.{Object}
 use Rattle.rules_table.specs.Records.{zero_object, free_object, is_free}
@@ -47,52 +45,49 @@ module _ (os : List Object) (i : ℕ) (many : length os ≡ 32) (t : Turn) where
 
 -- ---- the lowest free record, from place i on
 
-unfoldable pub free_left : ℕ → List Object → Found
-free_left i os = found (seek (λ (o : Object). is_free o.kind) i (drop i os))
+unfoldable pub free_left : ℕ → List Object → Option ℕ
+free_left i os = seek (λ (o : Object). is_free o.kind) i (drop i os)
 
-pub free-start : (os : List Object) → free_left 0 os ≡ found (free_record os)
+pub free-start : (os : List Object) → free_left 0 os ≡ free_record os
 unfolding free_left free_record
 free-start os = refl
 
-module _ (os : List Object) (i : ℕ) {k : Found} (v : free_left i os ≡ k) where
-  pub free-found : i < length os → is_free (get_or os i zero_object).kind ≡ true → At i ≡ k
+module _ (os : List Object) (i : ℕ) {k : Option ℕ} (v : free_left i os ≡ k) where
+  pub free-found : i < length os → is_free (get_or os i zero_object).kind ≡ true → Some i ≡ k
   unfolding free_left
-  free-found h e = ap found (seek_found (λ (o : Object). is_free o.kind) os i refl zero_object h e) ∙ v
+  free-found h e = seek_found (λ (o : Object). is_free o.kind) os i refl zero_object h e ∙ v
 
   pub free_on : i < length os → is_free (get_or os i zero_object).kind ≡ false → free_left (i + 1) os ≡ k
   unfolding free_left
-  free_on h e = ap found (seek-on (λ (o : Object). is_free o.kind) os i refl zero_object h e) ∙ v
+  free_on h e = seek-on (λ (o : Object). is_free o.kind) os i refl zero_object h e ∙ v
 
-  pub free-end : length os ≤ i → Nothing ≡ k
+  pub free-end : length os ≤ i → None ≡ k
   unfolding free_left
-  free-end h = ap found (seek-end (λ (o : Object). is_free o.kind) os i refl h) ∙ v
-
-pub free-here : (f : Found) (i : ℕ) (b : Bool) → f ≡ Nothing → b ≡ true → At i ≡ free_after f i b
-free-here f i b e t = rw (e, t)
+  free-end h = seek-end (λ (o : Object). is_free o.kind) os i refl h ∙ v
 
 -- a record that was found, or else the first of those left
-abbrev or_else : Found → Found → Found
-or_else (At j) g = At j
-or_else Nothing g = g
+abbrev or_else : Option ℕ → Option ℕ → Option ℕ
+or_else (Some j) g = Some j
+or_else None g = g
 
-free-turn : (os : List Object) (i : ℕ) (f : Found) {k : Found} → or_else f (free_left i os) ≡ k → i < length os
+free-turn : (os : List Object) (i : ℕ) (f : Option ℕ) {k : Option ℕ} → or_else f (free_left i os) ≡ k → i < length os
     → or_else (free_after f i (is_free (get_or os i zero_object).kind)) (free_left (i + 1) os) ≡ k
-free-turn os i (At j) v h = v
-free-turn os i Nothing v h =
+free-turn os i (Some j) v h = v
+free-turn os i None v h =
     by-test (is_free (get_or os i zero_object).kind)
     (λ e. rw e (free-found os i v h e))
     (λ e. rw e (free_on os i v h e))
 
-free-last : (os : List Object) (i : ℕ) (f : Found) {k : Found} → or_else f (free_left i os) ≡ k → length os ≤ i → f ≡ k
-free-last os i (At j) v h = v
-free-last os i Nothing v h = free-end os i v h
+free-last : (os : List Object) (i : ℕ) (f : Option ℕ) {k : Option ℕ} → or_else f (free_left i os) ≡ k → length os ≤ i → f ≡ k
+free-last os i (Some j) v h = v
+free-last os i None v h = free-end os i v h
 
 -- the released slots from i on before j are passed over
-free-next : (os : List Object) (i j : ℕ) (f : Found) {k : Found} → length os ≡ 32 → or_else f (free_left i os) ≡ k → Next os i j
+free-next : (os : List Object) (i j : ℕ) (f : Option ℕ) {k : Option ℕ} → length os ≡ 32 → or_else f (free_left i os) ≡ k → Next os i j
     → or_else (free_to f i j) (free_left j os) ≡ k
 unfolding free_to
-free-next os i j (At n) many v x = v
-free-next os i j Nothing many v x =
+free-next os i j (Some n) many v x = v
+free-next os i j None many v x =
     by-test (ltb i j)
     (λ t. let h = ltb-true i j t in
     rw t (free-found os i v (omega (arith, many, x.upto)) (ap (λ (o : Object). is_free o.kind) (x.released i (omega arith) h))))
@@ -106,13 +101,13 @@ record Ruling (os : List Object) (i : ℕ) (pages : List ℕ) : Type 0 where
   kept : Kept os i pages
 
 -- before slot i
-pub record Passing (os : List Object) (i : ℕ) (free : Found) (pages : List ℕ) : Type 0 where
+pub record Passing (os : List Object) (i : ℕ) (free : Option ℕ) (pages : List ℕ) : Type 0 where
   pub many : length os ≡ 32
   pub upto : i ≤ 32
   pub room : length pages ≡ 33
   pub ok : ok_left i os ≡ objects_ok os
   pub kept : Kept os i pages
-  pub lowest : or_else free (free_left i os) ≡ found (free_record os)
+  pub lowest : or_else free (free_left i os) ≡ free_record os
 
 -- ---- released slots are passed over
 
@@ -133,7 +128,7 @@ module _ (os : List Object) (pages : List ℕ) (many : length os ≡ 32) (room :
       let z : i + suc n ≡ i + 1 + n = omega arith in
       rw z (ruling_skips n (i + 1) (ruling_skip i v (omega arith) (e i (omega arith) (omega arith))) (omega arith) (λ k a b. e k (omega arith) (omega arith)))
 
-passing-next : (os : List Object) (i j : ℕ) (free lowest : Found) (pages : List ℕ) → Passing os i free pages → Next os i j → lowest ≡ free_to free i j
+passing-next : (os : List Object) (i j : ℕ) (free lowest : Option ℕ) (pages : List ℕ) → Passing os i free pages → Next os i j → lowest ≡ free_to free i j
     → Passing os j lowest pages
 passing-next os i j free lowest pages v x e =
     let z : i + (j - i) ≡ j = omega (arith, x.from) in
@@ -142,20 +137,20 @@ passing-next os i j free lowest pages v x e =
     record { many = v.many; upto = x.upto; room = v.room; ok = r.ok; kept = r.kept; lowest = rw e (free-next os i j free v.many v.lowest x) }
 
 pub passing-start : (os : List Object) (pages : List ℕ) → length os ≡ 32 → pages ≡ replicate 33 0
-    → (j : ℕ) (lowest : Found) → Next os 0 j → lowest ≡ free_to Nothing 0 j → Passing os j lowest pages
+    → (j : ℕ) (lowest : Option ℕ) → Next os 0 j → lowest ≡ free_to None 0 j → Passing os j lowest pages
 passing-start os pages m e j lowest x f =
-    passing-next os 0 j Nothing lowest pages
+    passing-next os 0 j None lowest pages
     (rw e (record { many = m; upto = omega arith; room = refl; ok = ok-start os; kept = kept-start os; lowest = free-start os })) x f
 
 -- ---- the others
 
-module _ (os : List Object) (i : ℕ) (free : Found) (pages : List ℕ) (v : Passing os i free pages) where
+module _ (os : List Object) (i : ℕ) (free : Option ℕ) (pages : List ℕ) (v : Passing os i free pages) where
   pub passing-failed : (t : Turn) → Turned os i t → i < 32 → t.good ≡ false → (p : Pass) → p.good ≡ false → (after : List ℕ) → Passed os p after
   passing-failed t w l e p b after =
       let bad = ok-failed os i v.many v.ok l (sym w.good ∙ e) in
       record { good = b ∙ bad; told = λ g. contrary false (bad ∙ g) refl }
 
-  passing-turn : (t : Turn) → Turned os i t → i < 32 → t.good ≡ true → (q : ℕ) (here : Found) → q ≡ max (get_or pages t.slot 0) t.page
+  passing-turn : (t : Turn) → Turned os i t → i < 32 → t.good ≡ true → (q : ℕ) (here : Option ℕ) → q ≡ max (get_or pages t.slot 0) t.page
       → here ≡ free_after free i t.free
       → Passing os (i + 1) here (set pages t.slot q)
   passing-turn t w l e q here eq ef =
@@ -169,9 +164,9 @@ module _ (os : List Object) (i : ℕ) (free : Found) (pages : List ℕ) (v : Pas
         lowest = rw (ef ∙ ap (free_after free i) w.free) (free-turn os i free v.lowest m);
       }
 
-  pub passing-on : (t : Turn) → Turned os i t → i < 32 → t.good ≡ true → (q : ℕ) (here : Found) → q ≡ max (get_or pages t.slot 0) t.page
+  pub passing-on : (t : Turn) → Turned os i t → i < 32 → t.good ≡ true → (q : ℕ) (here : Option ℕ) → q ≡ max (get_or pages t.slot 0) t.page
       → here ≡ free_after free i t.free
-      → (j a b : ℕ) (lowest : Found) → Next os (i + 1) j → lowest ≡ free_to here a b → a ≡ i + 1 → b ≡ j
+      → (j a b : ℕ) (lowest : Option ℕ) → Next os (i + 1) j → lowest ≡ free_to here a b → a ≡ i + 1 → b ≡ j
       → Passing os j lowest (set pages t.slot q)
   passing-on t w l e q here eq ef j a b lowest x f ea eb =
       passing-next os (i + 1) j here lowest (set pages t.slot q) (passing-turn t w l e q here eq ef) x (f ∙ rw (ea, eb))

@@ -10,8 +10,8 @@ use Rattle.lists.specs.Tests.{by-test, contrary, and_left, only_if}
 use Rattle.lists.specs.Search.{all-at}
 use Rattle.alignment.specs.Pages.{smallest_page, page-pos}
 use Rattle.alignment.specs.Highest.{highest}
-use Rattle.rules_table.specs.declared.Attachment.{Attachment}
 use Rattle.rules_table.specs.declared.Attachment.TheVariants.{Loose, Attached}
+use Rattle.rules_table.specs.declared.Attachment.{Attachment}
 use Rattle.rules_table.specs.declared.Kind.{Kind}
 use Rattle.rules_table.specs.declared.Kind.TheVariants.{Free, Space, Device}
 use Rattle.rules_table.specs.declared.Object.{Object}

@@ -1,8 +1,5 @@
 -- What one slot tells, and what one pass over the object records tells.
-use Rattle.std.specs.Prelude.{ℕ, ◌+◌, ◌≤◌, ◌<◌, ◌≡◌, Bool, true, cond, List, ltb, get_or}
-use Rattle.rangelists.specs.declared.Found.{Found}
-use Rattle.rangelists.specs.declared.Found.TheVariants.{Nothing, At}
-use Rattle.rangelists.specs.Listed.{found}
+use Rattle.std.specs.Prelude.{ℕ, ◌+◌, ◌≤◌, ◌<◌, ◌≡◌, Bool, true, cond, List, ltb, get_or, Option, None, Some}
 use Rattle.rules_table.specs.declared.Object.{Object}
 use Rattle.rules_table.specs.Records.{zero_object, free_object, is_free}
 use Rattle.rules_table.specs.Charge.{free_record}
@@ -28,13 +25,13 @@ pub record Next (os : List Object) (i j : ℕ) : Type 0 where
 -- of any objects: whether they are good; of good ones the lowest free slot, and the pages of the spaces
 pub record Passed (os : List Object) (p : Pass) (pages : List ℕ) : Type 0 where
   pub good : p.good ≡ objects_ok os
-  pub told : objects_ok os ≡ true → (p.free ≡ found (free_record os)) × Pages os pages
+  pub told : objects_ok os ≡ true → (p.free ≡ free_record os) × Pages os pages
 
 -- the lowest free slot, with slot i seen
-abbrev pub free_after : Found → ℕ → Bool → Found
-free_after (At j) i b = At j
-free_after Nothing i b = cond b (At i) Nothing
+abbrev pub free_after : Option ℕ → ℕ → Bool → Option ℕ
+free_after (Some j) i b = Some j
+free_after None i b = cond b (Some i) None
 
 -- with the released slots from i on before j seen
-unfoldable pub free_to : Found → ℕ → ℕ → Found
+unfoldable pub free_to : Option ℕ → ℕ → ℕ → Option ℕ
 free_to free i j = free_after free i (ltb i j)

@@ -8,14 +8,13 @@ ghost use Rattle.rules_table.specs.Words.{objects_in};
 ghost use Rattle.check_objects.specs.Pages.{slot_by, slot_of, ask_by, ask_of};
 ghost use Rattle.check_objects.specs.Passed.{Turned, Next, Passed, free_after, free_to};
 
-use rangelists::Found;
 use rules_table::{Attachment, Kind};
 
 // Whether the objects are good, and if so the lowest free slot.
 #[derive(Clone, Copy)]
 pub struct Pass {
     pub good: bool,
-    pub free: Found,
+    pub free: Option<usize>,
 }
 
 // What one slot tells: whether its object is good, whether it is free, and the page that it asks of a place of the pages.
@@ -32,13 +31,8 @@ fn slot_by(a: Attachment) -> usize
     ensures { (result ≡ slot_by a) × (result < 33) }
 {
     match a {
-        Attachment::Loose => 0,
-        Attachment::Attached(h) => {
-            if h <= 32 {
-                return h as usize;
-            }
-            0
-        }
+        Attachment::Attached(h) if h <= 32 => h as usize,
+        _ => 0,
     }
 }
 
@@ -74,14 +68,14 @@ fn ask_of(bitmap: u64, k: Kind) -> u64
 }
 
 // The lowest free slot so far, after slot i.
-fn free_after(free: Found, i: usize, here: bool) -> Found
+fn free_after(free: Option<usize>, i: usize, here: bool) -> Option<usize>
     ensures { result ≡ free_after free i here }
 {
     match free {
-        Found::At(_) => free,
-        Found::Nothing => {
+        Some(_) => free,
+        None => {
             if here {
-                return Found::At(i);
+                return Some(i);
             }
             free
         }
@@ -107,18 +101,17 @@ fn next_object(h: &[u64; 865], from: usize) -> usize
     requires { from ≤ 32 }
     ensures { Next (objects_in h.now) from result }
 {
-    let mut i = from;
-    while i < 32 {
+    for i in from..32 {
         if !layout_objects::is_released(h, i) {
             return i;
         }
-        i += 1;
     }
-    i
+    32
 }
 
 // The lowest free slot so far, after released slots from i on before j.
-fn free_to(free: Found, i: usize, j: usize) -> Found
+#[tactic(auto, unfolding(crate::specs::Passed::free_to))]
+fn free_to(free: Option<usize>, i: usize, j: usize) -> Option<usize>
     ensures { result ≡ free_to free i j }
 {
     free_after(free, i, i < j)
@@ -131,18 +124,17 @@ pub fn pass_over<'a>(h: &'a [u64; 865], pages: &'a mut [u64]) -> Pass
     ensures { Passed (objects_in h.now) result pages.new }
 {
     let mut i = next_object(h, 0);
-    let mut free = free_to(Found::Nothing, 0, i);
+    let mut free = free_to(None, 0, i);
     while i < 32 {
         let t = judge(h, i);
         if !t.good {
             return Pass {
                 good: false,
-                free: Found::Nothing,
+                free: None,
             };
         }
-        let slot = t.slot;
-        let q = ranges::higher(pages[slot], t.page);
-        pages[slot] = q;
+        let page = pages[t.slot].max(t.page);
+        pages[t.slot] = page;
         let here = free_after(free, i, t.free);
         let next = next_object(h, i + 1);
         free = free_to(here, i + 1, next);
@@ -155,13 +147,10 @@ pub fn pass_over<'a>(h: &'a [u64; 865], pages: &'a mut [u64]) -> Pass
 pub fn is_held(h: &[u64; 865], s: u32) -> bool
     ensures { result ≡ any (λ o. attached_to s o.kind) (objects_in h.now) }
 {
-    let mut i: usize = 0;
-    while i < 32 {
-        let k = layout_objects::kind_at(h, i);
-        if table::attached_to(k, s) {
+    for i in 0..32 {
+        if table::attached_to(layout_objects::kind_at(h, i), s) {
             return true;
         }
-        i += 1;
     }
     false
 }

@@ -17,14 +17,12 @@ use rangelists::Reserved;
 use ranges::Range;
 
 // Whether some record in use is of space s and shares an address with r. No record in use is of space 0.
+#[tactic(auto, using(crate::proofs::Clearing::struck_nowhere, crate::proofs::Clearing::struck_touched))]
 fn some_struck<'a>(ws: &'a [[u64; 5]], ix: &'a [u64], n: usize, s: u32, r: Range) -> bool
     requires { Indexed n ix.now (records_of ws.now) }
     ensures { result ≡ any (strikes s r) (records_of ws.now) }
 {
-    if s == 0 {
-        return false;
-    }
-    index_search::is_taken(ws, ix, n, s, r)
+    s != 0 && index_search::is_taken(ws, ix, n, s, r)
 }
 
 // Whether some record shares an address with some range of a list that is reserved in space s.
@@ -33,8 +31,7 @@ pub fn list_struck<'a>(l: Reserved, ws: &'a [[u64; 5]], ix: &'a [u64], n: usize,
     ensures { result ≡ any (λ r. any (strikes s r) (records_of ws.now)) (reserved l) }
 {
     let many = rangelists::used(l.count, 4);
-    let mut i: usize = 0;
-    while i < many {
+    for i in 0..many {
         let r = Range {
             start: l.starts[i],
             last: l.lasts[i],
@@ -42,7 +39,6 @@ pub fn list_struck<'a>(l: Reserved, ws: &'a [[u64; 5]], ix: &'a [u64], n: usize,
         if some_struck(ws, ix, n, s, r) {
             return true;
         }
-        i += 1;
     }
     false
 }
@@ -56,9 +52,8 @@ fn slot_clear<'a>(h: &'a [u64; 865], ws: &'a [[u64; 5]], ix: &'a [u64], n: usize
     if !table::is_attached(k) {
         return true;
     }
-    let s = table::home_of(k);
     let l = layout_objects::reserved_at(h, i);
-    !list_struck(l, ws, ix, n, s)
+    !list_struck(l, ws, ix, n, table::home_of(k))
 }
 
 // Whether no mapping shares an address with a reserved range of its space.
@@ -66,12 +61,10 @@ pub fn is_clear<'a>(h: &'a [u64; 865], ws: &'a [[u64; 5]], ix: &'a [u64], n: usi
     requires { Indexed n ix.now (records_of ws.now) }
     ensures { result ≡ all (λ m. when_used (clear_of (reserved_of (objects_in h.now) m.space)) m) (records_of ws.now) }
 {
-    let mut i: usize = 0;
-    while i < 32 {
+    for i in 0..32 {
         if !slot_clear(h, ws, ix, n, i) {
             return false;
         }
-        i += 1;
     }
     true
 }

@@ -5,12 +5,11 @@ use Rattle.std.proofs.Math.ListN.{get_or}
 use Rattle.lists.specs.Tests.{by-test, contrary, and_left}
 use Rattle.lists.specs.Search.{all-at}
 use Rattle.lists.specs.Each.{Each}
-use Rattle.rangelists.specs.Listed.{found}
+use Rattle.rules_table.specs.declared.Attachment.TheVariants.{Loose, Attached}
 use Rattle.rules_table.specs.declared.Object.{Object}
 use Rattle.rules_table.specs.declared.Mapping.{Mapping}
 use Rattle.alignment.specs.Pages.{smallest_page}
 use Rattle.alignment.specs.Highest.{highest}
-use Rattle.rules_table.specs.declared.Attachment.TheVariants.{Loose, Attached}
 use Rattle.rules_table.specs.declared.Kind.{Kind}
 use Rattle.rules_table.specs.declared.Kind.TheVariants.{Free, Space, Device}
 use Rattle.rules_table.specs.Records.{object_at, space_at, attached_to, zero_object}
@@ -50,7 +49,7 @@ pub record Known (os : List Object) (ms : List Mapping) (ix pages marks : List �
   pub objects : objects_ok os ≡ true
   pub records : Each (λ m. record_ok os m ≡ true) ms
   pub many : length ms ≡ 128
-  pub object : f.object ≡ found (free_record os)
+  pub object : f.object ≡ free_record os
   pub aligned : Pages os pages
   pub marked : length marks ≡ 129
   pub good : f.mappings.good ≡ true

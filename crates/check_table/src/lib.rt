@@ -9,13 +9,12 @@ ghost use Rattle.check_table.specs.Known.{Passes, Judged, Checked};
 use check_index::Listing;
 use check_mappings::Pass;
 use check_objects::Pass as Objects;
-use rangelists::Found;
 
 // Whether the table is good and the index that of its mappings. If so: the lowest free object record, what the pass over the mapping records tells, and how many numbers the index lists.
 #[derive(Clone, Copy)]
 pub struct Findings {
     pub good: bool,
-    pub object: Found,
+    pub object: Option<usize>,
     pub mappings: Pass,
     pub listed: usize,
 }
@@ -31,17 +30,11 @@ fn judge<'a>(
     requires { (length ws.now ≡ 128) × Passes (objects_in h.now) (records_of ws.now) objects p }
     ensures { Judged (head_in h.now).limit (objects_in h.now) (records_of ws.now) ix.now result }
 {
-    if !objects.good {
-        return check_index::bad_listing();
-    }
-    if !p.good {
+    if !objects.good || !p.good {
         return check_index::bad_listing();
     }
     let limit = layout_objects::limit_of(h);
-    if limit < p.charge {
-        return check_index::bad_listing();
-    }
-    if 0x10_0000_0000 < limit {
+    if limit < p.charge || 0x10_0000_0000 < limit {
         return check_index::bad_listing();
     }
     let l = check_index::listing_of(ws, ix, p.used);
@@ -68,10 +61,9 @@ pub fn check<'a>(
     let objects = check_objects::pass_over(h, pages);
     let p = check_mappings::pass_over(ws, pages, marks);
     let l = judge(h, ws, ix, objects, p);
-    let free = objects.free;
     Findings {
         good: l.good,
-        object: free,
+        object: objects.free,
         mappings: p,
         listed: l.count,
     }

@@ -1,16 +1,14 @@
 -- COPY: the checks as the code makes them, then one law for each return: the numbers, the source, the place or the records refused, or the copy is made.
+use Rattle.std.specs.Prelude.{is_some, None, Option}
 use Prim.Native.Nat.{ℕ, suc}
 use mathlib.Core.Path.{◌≡◌, refl, sym, ap, ◌∙◌}
 use borrow.Author.Tests.{not-false}
 use mathlib.Core.Bool.{Bool, true, false, not, ◌&&◌}
 use mathlib.Core.List.{List, [], ◌∷◌, ◌++◌}
-use mathlib.Core.Option.{Option}
 use native.Mathlib.Omega.{arith}
 use lib.Dec.{eqb}
 use Rattle.lists.specs.Checks.{Check, when, first, Refusals, passed}
 use Rattle.ranges.specs.Ranges.{passes}
-use Rattle.rangelists.specs.declared.Found.{Found}
-use Rattle.rangelists.specs.Listed.{found, is_found}
 use Rattle.rules_table.specs.Flags.{bit, unknown}
 use Rattle.rules_table.specs.declared.Object.{Object}
 use Rattle.rules_table.specs.declared.Mapping.{Mapping}
@@ -19,8 +17,6 @@ use Rattle.rules_table.specs.Charge.{free_mapping}
 use Rattle.rules_calls.specs.declared.Edit.{Edit}
 use Rattle.rules_calls.specs.Edits.{refuse, is_none}
 use Rattle.edits.specs.Settled.{checked, checked-last, settle-refused, settle-taken}
-use Rattle.index_search.specs.declared.Source.{Source}
-use Rattle.index_search.specs.declared.Source.TheVariants.{Missing}
 use Rattle.rules_calls.specs.Copy.{source_of, source_mapping, source_checks, record_checks, copy_of, copying, copy_number_checks, copy_checks, copy_edit}
 use Rattle.landing.specs.declared.Target.{Target}
 use Rattle.landing.specs.declared.Placing.{Placing}
@@ -28,8 +24,7 @@ use Rattle.rules_calls.specs.Landing.{place_checks}
 use Rattle.landing.specs.Placing.{Placed}
 use Rattle.rules_calls.specs.Map.{rights_of, mapped, no_right, wrong_length, fixed_passes}
 use Rattle.cmd_map.proofs.Staging.{stage_refused, stage_passed, place-refuse}
-use Rattle.edits.specs.Numbers.{copy_number_checks_at, copy_checks_at, copy_edit_at, option_of, option_found, none_found}
-use Rattle.index_search.specs.Sourced.{sourced, mapping_in, mapping-sourced}
+use Rattle.edits.specs.Numbers.{copy_number_checks_at, copy_checks_at, copy_edit_at}
 
 pub numbers-are : (os : List Object) (flags s from n x y r1 r2 r3 r4 r5 r6 r7 : ℕ) (un nr wr pa fi tg kn : Bool) → un ≡ unknown 3 flags → nr ≡ no_right flags → wr ≡ wrong_length n → pa ≡ passes y n
     → fi ≡ fixed_passes flags x n → tg ≡ space_at os s → kn ≡ space_at os from → r1 ≡ first (when (not kn) 2 ∷ []) 0 → r2 ≡ first (when (not tg) 2 ∷ []) r1 → r3 ≡ first (when fi 75 ∷ []) r2
@@ -62,19 +57,24 @@ both-known r1 r2 r3 r4 r5 r6 r7 un nr wr pa fi tg kn e1 e2 e3 e4 e5 e6 e7 z =
     let t = through (not tg) 1 r1 r2 e2 z2 in
     (not-false tg t.0, not-false kn (through (not kn) 1 0 r1 e1 t.1).0)
 
-pub source-none : (o : Source) → o ≡ Missing → ◌≡◌ {A = Mapping} record { space = 0; rights = 0; founder = 0; backing = 0; address = 0; length = 0; memory = 0 } (source_mapping (mapping_in o))
+pub source-none : (o : Option Mapping) → o ≡ None → ◌≡◌ {A = Mapping} record { space = 0; rights = 0; founder = 0; backing = 0; address = 0; length = 0; memory = 0 } (source_mapping o)
 source-none o e = rw e
 
+-- what std says of `is_none`, as an equation
+pub none-is : {A : Type 0} (o : Option A) (b : Bool) → is_some o ≡ not b → b ≡ is_none o
+none-is o true e = sym (ap (λ (x : Bool). not x) e)
+none-is o false e = sym (ap (λ (x : Bool). not x) e)
+
 -- the founder's right is asked
-pub source_is : (flags : ℕ) (o : Source) (m : Mapping) (r1 r2 : ℕ) (ms w d : Bool) → ms ≡ is_none (mapping_in o) → m ≡ source_mapping (mapping_in o) → w ≡ bit 1 flags → d ≡ (w && not (eqb m.founder 1))
-    → r1 ≡ first (when d 1 ∷ []) 0 → r2 ≡ first (when ms 2 ∷ []) r1 → r2 ≡ first (source_checks flags (mapping_in o)) 0
+pub source_is : (flags : ℕ) (o : Option Mapping) (m : Mapping) (r1 r2 : ℕ) (ms w d : Bool) → ms ≡ is_none o → m ≡ source_mapping o → w ≡ bit 1 flags → d ≡ (w && not (eqb m.founder 1))
+    → r1 ≡ first (when d 1 ∷ []) 0 → r2 ≡ first (when ms 2 ∷ []) r1 → r2 ≡ first (source_checks flags o) 0
 unfolding source_checks
 source_is flags o m r1 r2 ms w d es em ew ed e1 e2 =
-    checked ms (is_none (mapping_in o)) 2 r2 r1 0 _ e2 es (checked-last d (bit 1 flags && not (eqb (source_mapping (mapping_in o)).founder 1)) 1 r1 0 e1 (ed ∙ rw (ew, em)))
+    checked ms (is_none o) 2 r2 r1 0 _ e2 es (checked-last d (bit 1 flags && not (eqb (source_mapping o).founder 1)) 1 r1 0 e1 (ed ∙ rw (ew, em)))
 
-pub record_is : (free : Found) (r : ℕ) (b : Bool) → b ≡ is_found free → r ≡ first (when (not b) 12 ∷ []) 0 → r ≡ first (record_checks (option_of free)) 0
+pub record_is : (free : Option ℕ) (r : ℕ) (b : Bool) → b ≡ is_some free → r ≡ first (when (not b) 12 ∷ []) 0 → r ≡ first (record_checks free) 0
 unfolding record_checks
-record_is free r b eb e = checked-last (not b) (is_none (option_of free)) 12 r 0 e (ap (λ (x : Bool). not x) eb ∙ none_found free)
+record_is free r b eb e = checked-last (not b) (is_none free) 12 r 0 e (ap (λ (x : Bool). not x) eb)
 
 pub copy_is : (m : Mapping) (flags s n x rights : ℕ) → rights ≡ rights_of flags
     → ◌≡◌ {A = Mapping} record { space = s; rights = rights; founder = m.founder; backing = m.backing; address = x; length = n; memory = m.memory } (copy_of m flags s n x)
@@ -116,17 +116,17 @@ module _ (os : List Object) (ms : List Mapping) (t : Target) (source from : ℕ)
   source-refuse = (λ y. omega (arith, y), (λ y. omega (arith, y), tt))
 
   -- what was looked for in a space is the source, if it is the source's
-  pub asked : (o : Source) (s : ℕ) → s ≡ source → o ≡ sourced (source_of ms s from t.length) → o ≡ sourced named
-  asked o s q e = e ∙ ap (λ (x : ℕ). sourced (source_of ms x from t.length)) q
+  pub asked : (o : Option Mapping) (s : ℕ) → s ≡ source → o ≡ source_of ms s from t.length → o ≡ named
+  asked o s q e = e ∙ ap (λ (x : ℕ). (source_of ms x from t.length)) q
 
   -- the numbers refuse
   pub by-numbers : (w : ℕ) (r : Edit) → w ≡ first numbers 0 → (w ≡ 0 → ⊥) → r ≡ refuse w → r ≡ edit
   unfolding copy_edit copy_checks
   by-numbers w r e h k = settle-refused w (first all 0) r _ (stage_refused numbers (source_checks t.flags named ++ (places ++ records)) w e h) h k
 
-  module _ (w : ℕ) (ew : w ≡ first numbers 0) (zw : w ≡ 0) (o : Source) (eo : o ≡ sourced named) (d : ℕ) (ed : d ≡ first (source_checks t.flags (mapping_in o)) 0) where
-    is-named : mapping_in o ≡ named
-    is-named = ap mapping_in eo ∙ mapping-sourced named
+  module _ (w : ℕ) (ew : w ≡ first numbers 0) (zw : w ≡ 0) (o : Option Mapping) (eo : o ≡ named) (d : ℕ) (ed : d ≡ first (source_checks t.flags o) 0) where
+    is-named : o ≡ named
+    is-named = eo
 
     denied : d ≡ first (source_checks t.flags named) 0
     denied = ed ∙ ap (λ (x : Option Mapping). first (source_checks t.flags x) 0) is-named
@@ -151,10 +151,10 @@ module _ (os : List Object) (ms : List Mapping) (t : Target) (source from : ℕ)
       unfolding copy_edit
       by_place r h k = settle-refused p.errno (first all 0) r _ (after p.errno (stage_refused places records p.errno at.errno h)) h k
 
-      module _ (zp : p.errno ≡ 0) (free : Found) (ev : free ≡ found (free_mapping ms)) (full : ℕ) (ef : full ≡ first (record_checks (option_of free)) 0) where
+      module _ (zp : p.errno ≡ 0) (free : Option ℕ) (ev : free ≡ free_mapping ms) (full : ℕ) (ef : full ≡ first (record_checks free) 0) where
         records-are : full ≡ first all 0
         records-are =
-            after full (stage_passed places records p.errno full (place-refuse os ms t.space (bit 0 t.flags) t.length t.address) at.errno zp (ef ∙ rw (ev, option_found (free_mapping ms))))
+            after full (stage_passed places records p.errno full (place-refuse os ms t.space (bit 0 t.flags) t.length t.address) at.errno zp (ef ∙ rw (ev)))
 
         -- no record is free
         pub by-records : (r : Edit) → (full ≡ 0 → ⊥) → r ≡ refuse full → r ≡ edit
@@ -162,6 +162,6 @@ module _ (os : List Object) (ms : List Mapping) (t : Target) (source from : ℕ)
         by-records r h k = settle-refused full (first all 0) r _ records-are h k
 
         -- the copy is made
-        pub by-copying : (r : Edit) (m n : Mapping) → full ≡ 0 → m ≡ source_mapping (mapping_in o) → n ≡ copy_of m t.flags t.space t.length p.address → r ≡ mapped (option_of free) n → r ≡ edit
+        pub by-copying : (r : Edit) (m n : Mapping) → full ≡ 0 → m ≡ source_mapping o → n ≡ copy_of m t.flags t.space t.length p.address → r ≡ mapped free n → r ≡ edit
         unfolding copy_edit copying
-        by-copying r m n zf em en er = settle-taken full (first all 0) r _ records-are zf (er ∙ rw (en, em, is-named, ev, option_found (free_mapping ms), at.address zp))
+        by-copying r m n zf em en er = settle-taken full (first all 0) r _ records-are zf (er ∙ rw (en, em, is-named, ev, at.address zp))

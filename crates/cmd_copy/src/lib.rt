@@ -10,13 +10,10 @@ ghost use Rattle.rules_table.specs.Words.{objects_in};
 ghost use Rattle.layout_mappings.specs.Words.{records_of};
 ghost use Rattle.index_search.specs.Indexed.{Indexed};
 ghost use Rattle.rules_calls.specs.Copy.{source_mapping, source_checks, record_checks, copy_of};
-ghost use Rattle.edits.specs.Numbers.{copy_number_checks_at, copy_edit_at, option_of};
+ghost use Rattle.edits.specs.Numbers.{copy_number_checks_at, copy_edit_at};
 ghost use Rattle.rules_calls.specs.Edits.{is_none};
-ghost use Rattle.index_search.specs.Sourced.{mapping_in};
 
-use index_search::Source;
 use landing::Target;
-use rangelists::Found;
 use rules_calls::Edit;
 use rules_table::Mapping;
 
@@ -55,11 +52,11 @@ fn copy_number_errno(target: bool, known: bool, t: Target, from: u64) -> u8
 }
 
 // A released record where there is no source.
-pub fn source_mapping(o: Source) -> Mapping
-    ensures { result ≡ source_mapping (mapping_in o) }
+pub fn source_mapping(o: Option<Mapping>) -> Mapping
+    ensures { result ≡ source_mapping o }
 {
     match o {
-        Source::Missing => Mapping {
+        None => Mapping {
             space: 0,
             rights: 0,
             founder: 0,
@@ -68,34 +65,25 @@ pub fn source_mapping(o: Source) -> Mapping
             length: 0,
             memory: 0,
         },
-        Source::Mapped(m) => m,
-    }
-}
-
-pub fn is_missing(o: Source) -> bool
-    ensures { result ≡ is_none (mapping_in o) }
-{
-    match o {
-        Source::Missing => true,
-        Source::Mapped(_) => false,
+        Some(m) => m,
     }
 }
 
 // The right to write is the founder's, whatever the source itself may do.
-fn source_errno(flags: u32, o: Source) -> u8
-    ensures { result ≡ first (source_checks flags (mapping_in o)) 0 }
+fn source_errno(flags: u32, o: Option<Mapping>) -> u8
+    ensures { result ≡ first (source_checks flags o) 0 }
 {
-    let missing = is_missing(o);
+    let missing = o.is_none();
     let m = source_mapping(o);
     let founder = m.founder;
     let denied = checks::both(opening::is_writeable(flags), founder != 1);
     checks::refuse_if(missing, 2, checks::refuse_if(denied, 1, 0))
 }
 
-fn record_errno(free: Found) -> u8
-    ensures { result ≡ first (record_checks (option_of free)) 0 }
+fn record_errno(free: Option<usize>) -> u8
+    ensures { result ≡ first (record_checks free) 0 }
 {
-    checks::refuse_if(!rangelists::is_found(free), 12, 0)
+    checks::refuse_if(!free.is_some(), 12, 0)
 }
 
 // The mapping that a COPY of m makes, at an address.

@@ -1,14 +1,12 @@
 -- COPY, one law for each return.
+use Rattle.std.specs.Prelude.{is_some, Option}
 use Prim.Native.Nat.{ℕ}
 use mathlib.Core.Path.{◌≡◌, refl, sym, ap, ◌∙◌}
 use mathlib.Core.Bool.{Bool, true, false, not, ◌&&◌}
 use mathlib.Core.List.{List, [], ◌∷◌, ◌++◌}
-use mathlib.Core.Option.{Option}
 use native.Mathlib.Omega.{arith}
 use lib.Dec.{eqb}
 use Rattle.lists.specs.Checks.{Check, when, first, Refusals}
-use Rattle.rangelists.specs.declared.Found.{Found}
-use Rattle.rangelists.specs.Listed.{found, is_found}
 use Rattle.rules_table.specs.Flags.{unknown, fixed, writeable}
 use Rattle.rules_table.specs.declared.Object.{Object}
 use Rattle.rules_table.specs.declared.Mapping.{Mapping}
@@ -17,9 +15,6 @@ use Rattle.rules_table.specs.Charge.{free_mapping}
 use Rattle.rules_calls.specs.Edits.{is_none}
 use Rattle.rules_calls.specs.Landing.{place_checks}
 use Rattle.rules_calls.specs.Copy.{source_of, source_mapping, source_checks, record_checks, copy_number_checks, copy_checks}
-use Rattle.edits.specs.Numbers.{option_of, option_found, none_found}
-use Rattle.index_search.specs.declared.Source.{Source}
-use Rattle.index_search.specs.Sourced.{sourced, mapping_in, mapping-sourced}
 use Rattle.landing.specs.declared.Target.{Target}
 use Rattle.rules_reasons.specs.declared.Reason.{Reason}
 use Rattle.rules_reasons.specs.declared.Reason.TheVariants.{Accepted, SourcePasses, NoSpace, NoSourceSpace, NoSource, NotWriteable, NoRecord}
@@ -28,9 +23,6 @@ use Rattle.reason_words.specs.Words.{Short, Tells, code_refuses}
 use Rattle.reason_place.specs.Told.{place_reason}
 use Rattle.cmd_explain.specs.Numbered.{number_checks, copy_reason_at}
 use Rattle.cmd_explain.proofs.Naming.{checked-last, stage_refused, stage_passed, check-fires, check-passes, short-first, places-append, places-refuse}
-
-pub source-found : (o : Source) (x : Option Mapping) → o ≡ sourced x → mapping_in o ≡ x
-source-found o x e = ap (λ (q : Source). mapping_in q) e ∙ mapping-sourced x
 
 module _ (os : List Object) (ms : List Mapping) (t : Target) (source from : ℕ) where
   abbrev why : Reason
@@ -124,9 +116,9 @@ module _ (os : List Object) (ms : List Mapping) (t : Target) (source from : ℕ)
               by_place h = record { reason = stage_refused why places free p at_place ep.reason h; short = ep.short }
 
               -- no record is free, or nothing refuses
-              pub by-record : p ≡ Accepted → (f : Found) → f ≡ found (free_mapping ms) → (b : Bool) → b ≡ is_found f → (r : Reason) → r ≡ first (when (not b) NoRecord ∷ []) Accepted → Tells why r
+              pub by-record : p ≡ Accepted → (f : Option ℕ) → f ≡ free_mapping ms → (b : Bool) → b ≡ is_some f → (r : Reason) → r ≡ first (when (not b) NoRecord ∷ []) Accepted → Tells why r
               by-record zp f ef b eb r er =
-                  let is : r ≡ first free Accepted = checked-last (not b) (is_none (free_mapping ms)) NoRecord r Accepted er (ap (λ (x : Bool). not x) eb ∙ none_found f ∙ ap (λ (o : Option ℕ). is_none o) (ap option_of ef ∙ option_found (free_mapping ms))) in
+                  let is : r ≡ first free Accepted = checked-last (not b) (is_none (free_mapping ms)) NoRecord r Accepted er (ap (λ (x : Bool). not x) eb ∙ ap (λ (o : Option ℕ). is_none o) ef) in
                   record {
                     reason = is ∙ sym (stage_passed why places free p at_place (places-refuse os ms t.space (fixed t.flags) t.length t.address) ep.reason zp);
                     short = short-first free r is (omega arith, tt);

@@ -14,7 +14,6 @@ use Rattle.rules_table.specs.Records.{space_at}
 use Rattle.rules_table.specs.Charge.{charge, free_mapping}
 use Rattle.rules_calls.specs.Landing.{place_checks}
 use Rattle.rules_calls.specs.Map.{map_number_checks, room_checks, map_checks}
-use Rattle.edits.specs.Numbers.{option_of, option_found}
 use Rattle.scan.specs.declared.Survey.{Survey}
 use Rattle.scan.specs.Surveyed.{survey_of}
 use Rattle.landing.specs.declared.Target.{Target}
@@ -85,10 +84,10 @@ module _ (limit : ℕ) (os : List Object) (ms : List Mapping) (t : Target) (z me
 
         -- the room refuses, or nothing does
         pub by-room : p ≡ Accepted → (v : Survey) → v ≡ survey_of ms → (lim pages : ℕ) → lim ≡ limit → pages ≡ pages_touched memory t.length
-            → (r : Reason) → r ≡ first (named (room_checks (option_of v.free) lim v.charge pages) room_names) Accepted → Tells why r
+            → (r : Reason) → r ≡ first (named (room_checks v.free lim v.charge pages) room_names) Accepted → Tells why r
         unfolding survey_of
         by-room zp v ev lim pages el eg r er =
-            let is : r ≡ first room Accepted = er ∙ rw (ev, el, eg, option_found (free_mapping ms)) in
+            let is : r ≡ first room Accepted = er ∙ rw (ev, el, eg) in
             record {
               reason = is ∙ sym (stage_passed why places room p at_place (places-refuse os ms t.space (fixed t.flags) t.length t.address) ep.reason zp);
               short = short-room r is;

@@ -1,4 +1,5 @@
 -- Checks by name, one after another: a check or a stage that fires decides, one that passes leaves the reason to what comes after it.
+use Rattle.std.specs.Prelude.{Option, is_some}
 use Prim.Native.Nat.{ℕ}
 use mathlib.Core.Path.{◌≡◌, refl, sym, ap, subst, ◌∙◌}
 use mathlib.Core.Bool.{Bool, true, false, not}
@@ -10,13 +11,10 @@ use Rattle.lists.specs.Tests.{contrary}
 use Rattle.lists.specs.Each.{Each}
 use Rattle.lists.specs.Checks.{Check, when, first, first-nil, first-fires, first_passes, first-append, first-stays, first_goes, first-each, Refusals}
 use Rattle.ranges.specs.Ranges.{passes}
-use Rattle.rangelists.specs.declared.Found.{Found}
-use Rattle.rangelists.specs.Listed.{is_found}
 use Rattle.rules_table.specs.declared.Object.{Object}
 use Rattle.rules_table.specs.declared.Mapping.{Mapping}
 use Rattle.rules_calls.specs.Landing.{fixed_checks, automatic_checks, place_checks}
 use Rattle.rules_calls.specs.Map.{no_right, wrong_length, fixed_passes, over_limit, room_checks}
-use Rattle.edits.specs.Numbers.{option_of, none_found}
 use Rattle.rules_calls.specs.Edits.{is_none}
 use Rattle.rules_reasons.specs.declared.Reason.{Reason}
 use Rattle.rules_reasons.specs.declared.Reason.TheVariants.{Accepted, Flags, NoRight, WrongLength, AddressPasses, NoRecord, OverLimit}
@@ -43,11 +41,11 @@ numbers-are unknown nr wr pa fi flags n x start past r1 r2 r3 r4 r5 enr ewr epa 
     (checked pa (passes start n) past r2 r1 Accepted _ e2 epa
     (checked-last fi (fixed_passes flags x n) AddressPasses r1 Accepted e1 efi))))
 
-pub room-is : (free : Found) (limit charge pages : ℕ) (some over : Bool) (r1 r2 : Reason) → some ≡ is_found free → over ≡ over_limit limit charge pages
-    → r1 ≡ first (when over OverLimit ∷ []) Accepted → r2 ≡ first (when (not some) NoRecord ∷ []) r1 → r2 ≡ first (named (room_checks (option_of free) limit charge pages) room_names) Accepted
+pub room-is : (free : Option ℕ) (limit charge pages : ℕ) (some over : Bool) (r1 r2 : Reason) → some ≡ is_some free → over ≡ over_limit limit charge pages
+    → r1 ≡ first (when over OverLimit ∷ []) Accepted → r2 ≡ first (when (not some) NoRecord ∷ []) r1 → r2 ≡ first (named (room_checks free limit charge pages) room_names) Accepted
 unfolding room_checks named
 room-is free limit charge pages some over r1 r2 es eo e1 e2 =
-    checked (not some) (is_none (option_of free)) NoRecord r2 r1 Accepted _ e2 (ap (λ (x : Bool). not x) es ∙ none_found free)
+    checked (not some) (is_none free) NoRecord r2 r1 Accepted _ e2 (ap (λ (x : Bool). not x) es)
     (checked-last over (over_limit limit charge pages) OverLimit r1 Accepted e1 eo)
 
 -- a check, as the code makes it

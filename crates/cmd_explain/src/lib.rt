@@ -10,7 +10,6 @@ ghost use Rattle.layout_mappings.specs.Words.{records_of};
 ghost use Rattle.index_search.specs.Indexed.{Indexed};
 ghost use Rattle.check_mappings.specs.Told.{Told};
 ghost use Rattle.rules_calls.specs.Map.{room_checks};
-ghost use Rattle.edits.specs.Numbers.{option_of};
 ghost use Rattle.rules_reasons.specs.declared.Reason.TheVariants.{Accepted};
 ghost use Rattle.rules_reasons.specs.Reasons.{named, room_names};
 ghost use Rattle.reason_words.specs.Words.{Tells};
@@ -18,7 +17,6 @@ ghost use Rattle.cmd_explain.specs.Numbered.{number_checks, map_reason_at, copy_
 
 use check_mappings::Pass;
 use landing::Target;
-use rangelists::Found;
 use rules_reasons::Reason;
 
 // A check: its name where it fires, else what the checks after it give.
@@ -58,10 +56,10 @@ fn number_reason(unknown: bool, t: Target, start: u64, past: Reason) -> Reason
 }
 
 // A free record, and the charge within the limit.
-fn room_reason(free: Found, limit: u64, charge: u64, pages: u64) -> Reason
-    ensures { result ≡ first (named (room_checks (option_of free) limit charge pages) room_names) Accepted }
+fn room_reason(free: Option<usize>, limit: u64, charge: u64, pages: u64) -> Reason
+    ensures { result ≡ first (named (room_checks free limit charge pages) room_names) Accepted }
 {
-    let some = rangelists::is_found(free);
+    let some = free.is_some();
     let over = cmd_map::over_limit(limit, charge, pages);
     name_if(
         !some,
@@ -134,7 +132,7 @@ pub fn copy_reason<'a>(
         return Reason::NoSourceSpace;
     }
     let o = index_search::find_source(ws, ix, listed, source, from, t.length);
-    if cmd_copy::is_missing(o) {
+    if o.is_none() {
         return Reason::NoSource;
     }
     let m = cmd_copy::source_mapping(o);
@@ -146,7 +144,7 @@ pub fn copy_reason<'a>(
         return place;
     }
     name_if(
-        !rangelists::is_found(scan::free_record(ws)),
+        !scan::free_record(ws).is_some(),
         Reason::NoRecord,
         Reason::Accepted,
     )

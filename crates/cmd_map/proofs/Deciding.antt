@@ -25,7 +25,7 @@ use Rattle.rules_calls.specs.Landing.{place_checks}
 use Rattle.landing.specs.Placing.{Placed}
 use Rattle.rules_calls.specs.Map.{mapped, room_checks, found_of, founding, map_edit, map_number_checks, map_checks}
 use Rattle.cmd_map.proofs.Staging.{stage_refused, stage_passed, place-refuse}
-use Rattle.edits.specs.Numbers.{map_number_checks_at, map_checks_at, map_edit_at, option_of, option_found}
+use Rattle.edits.specs.Numbers.{map_number_checks_at, map_checks_at, map_edit_at}
 
 module _ (limit : ℕ) (os : List Object) (ms : List Mapping) (t : Target) (z memory : ℕ) where
   abbrev numbers : List (Check ℕ)
@@ -65,12 +65,12 @@ module _ (limit : ℕ) (os : List Object) (ms : List Mapping) (t : Target) (z me
         settle-refused p.errno (first all 0) r _ (stage_passed numbers (places ++ room) w p.errno numbers-refuse ew zw (stage_refused places room p.errno at.errno h)) h k
 
     module _ (zp : p.errno ≡ 0) (v : Survey) (ev : v ≡ survey_of ms) (pages full lim : ℕ) (el : lim ≡ limit) (ep : pages ≡ pages_touched memory t.length)
-        (ef : full ≡ first (room_checks (option_of v.free) lim v.charge pages) 0) where
+        (ef : full ≡ first (room_checks v.free lim v.charge pages) 0) where
       room-is : full ≡ first all 0
       unfolding map_checks survey_of
       room-is =
           stage_passed numbers (places ++ room) w full numbers-refuse ew zw
-          (stage_passed places room p.errno full (place-refuse os ms t.space (bit 0 t.flags) t.length t.address) at.errno zp (ef ∙ rw (ev, el, ep, option_found (free_mapping ms))))
+          (stage_passed places room p.errno full (place-refuse os ms t.space (bit 0 t.flags) t.length t.address) at.errno zp (ef ∙ rw (ev, el, ep)))
 
       -- the room refuses
       pub by-room : (r : Edit) → (full ≡ 0 → ⊥) → r ≡ refuse full → r ≡ edit
@@ -78,9 +78,9 @@ module _ (limit : ℕ) (os : List Object) (ms : List Mapping) (t : Target) (z me
       by-room r h k = settle-refused full (first all 0) r _ room-is h k
 
       -- the mapping is made
-      pub by-making : (r : Edit) (number : ℕ) (m : Mapping) → full ≡ 0 → number ≡ number_in (option_of v.backing) → m ≡ found_of number t.flags t.space memory t.length p.address → r ≡ mapped (option_of v.free) m → r ≡ edit
+      pub by-making : (r : Edit) (number : ℕ) (m : Mapping) → full ≡ 0 → number ≡ number_in v.backing → m ≡ found_of number t.flags t.space memory t.length p.address → r ≡ mapped v.free m → r ≡ edit
       unfolding map_edit founding survey_of
-      by-making r number m zf en em er = settle-taken full (first all 0) r _ room-is zf (er ∙ rw (em, en, ev, option_found (free_mapping ms), option_found (free_backing ms), at.address zp))
+      by-making r number m zf en em er = settle-taken full (first all 0) r _ room-is zf (er ∙ rw (em, en, ev, at.address zp))
 
 none-there : (s : ℕ) → space_at [] s ≡ false
 unfolding space_at object_at

@@ -1,9 +1,9 @@
 -- The parts of a new mapping, as the code makes them.
+use Rattle.std.specs.Prelude.{None, Some, is_some, Option}
 use Prim.Native.Nat.{ℕ, ◌+◌, ◌≤◌, ◌<◌}
 use mathlib.Core.Path.{◌≡◌, refl, sym, ap, ◌∙◌}
 use mathlib.Core.Bool.{Bool, true, false, not, ◌&&◌, ◌||◌}
 use mathlib.Core.List.{List, [], ◌∷◌}
-use mathlib.Core.Option.{Option, none, some}
 use native.Mathlib.Omega.{arith}
 use lib.Dec.{eqb}
 use borrow.Author.Tests.{lt-ltb, le-ltb}
@@ -12,9 +12,6 @@ use Rattle.lists.specs.Search.{any}
 use Rattle.lists.specs.Below.{lowest-some}
 use Rattle.lists.specs.Checks.{when, first}
 use Rattle.ranges.specs.Ranges.{passes}
-use Rattle.rangelists.specs.declared.Found.{Found}
-use Rattle.rangelists.specs.declared.Found.TheVariants.{Nothing, At}
-use Rattle.rangelists.specs.Listed.{is_found}
 use Rattle.rules_table.specs.Flags.{bit, unknown}
 use Rattle.rules_table.specs.declared.Object.{Object}
 use Rattle.rules_table.specs.declared.Mapping.{Mapping}
@@ -27,7 +24,7 @@ use Rattle.edits.specs.Settled.{checked, checked-last}
 use Rattle.scan.specs.declared.Survey.{Survey}
 use Rattle.scan.specs.Surveyed.{survey_of}
 use Rattle.rules_calls.specs.Map.{rights_of, mapped, no_right, wrong_length, fixed_passes, room_checks, over_limit, found_of, map_number_checks}
-use Rattle.edits.specs.Numbers.{map_number_checks_at, option_of, option_found, none_found}
+use Rattle.edits.specs.Numbers.{map_number_checks_at}
 
 pub rights-are : (flags p q : ℕ) (w r : Bool) → w ≡ bit 1 flags → p ≡ only_if w 1 → r ≡ bit 2 flags → q ≡ only_if r 2 → p + q ≡ rights_of flags
 unfolding rights_of
@@ -43,30 +40,30 @@ fixed-passes flags x n f p b ef ep eb = eb ∙ rw (ef, ep)
 
 -- ---- the number that was found
 
-pub number_at : (f : Found) (n : ℕ) → f ≡ At n → number_in (option_of f) ≤ 128 → n ≤ 128
-number_at f n e h = omega (arith, h, ap (λ (x : Found). number_in (option_of x)) e)
+pub number_at : (f : Option ℕ) (n : ℕ) → f ≡ Some n → number_in f ≤ 128 → n ≤ 128
+number_at f n e h = omega (arith, h, ap (λ (x : Option ℕ). number_in x) e)
 
-pub number-none : (f : Found) → f ≡ Nothing → 0 ≡ number_in (option_of f)
-number-none f e = sym (ap (λ (x : Found). number_in (option_of x)) e)
+pub number-none : (f : Option ℕ) → f ≡ None → 0 ≡ number_in f
+number-none f e = sym (ap (λ (x : Option ℕ). number_in x) e)
 
-pub number-some : (f : Found) (n : ℕ) → f ≡ At n → n ≡ number_in (option_of f)
-number-some f n e = sym (ap (λ (x : Found). number_in (option_of x)) e)
+pub number-some : (f : Option ℕ) (n : ℕ) → f ≡ Some n → n ≡ number_in f
+number-some f n e = sym (ap (λ (x : Option ℕ). number_in x) e)
 
 backing-upto : (ms : List Mapping) (o : Option ℕ) → free_backing ms ≡ o → number_in o ≤ 128
 unfolding free_backing
-backing-upto ms none e = omega arith
-backing-upto ms (some n) e = omega (arith, (lowest-some (λ b. not (any (backs b) ms)) 128 1 n e).upto)
+backing-upto ms None e = omega arith
+backing-upto ms (Some n) e = omega (arith, (lowest-some (λ b. not (any (backs b) ms)) 128 1 n e).upto)
 
-pub backing-fits : (ms : List Mapping) (v : Survey) → v ≡ survey_of ms → number_in (option_of v.backing) ≤ 128
+pub backing-fits : (ms : List Mapping) (v : Survey) → v ≡ survey_of ms → number_in v.backing ≤ 128
 unfolding survey_of
-backing-fits ms v e = rw (e, option_found (free_backing ms)) (backing-upto ms (free_backing ms) refl)
+backing-fits ms v e = rw e (backing-upto ms (free_backing ms) refl)
 
 -- ---- a new mapping in the lowest free record
 
-pub put-none : (f : Found) (m : Mapping) (r : Edit) → f ≡ Nothing → r ≡ refuse 12 → r ≡ mapped (option_of f) m
+pub put-none : (f : Option ℕ) (m : Mapping) (r : Edit) → f ≡ None → r ≡ refuse 12 → r ≡ mapped f m
 put-none f m r e k = rw e k
 
-pub put-at : (f : Found) (m : Mapping) (r : Edit) (i : ℕ) (o : Object) → f ≡ At i → o ≡ free_object → r ≡ accept m.address (Map i m) o → r ≡ mapped (option_of f) m
+pub put-at : (f : Option ℕ) (m : Mapping) (r : Edit) (i : ℕ) (o : Object) → f ≡ Some i → o ≡ free_object → r ≡ accept m.address (Map i m) o → r ≡ mapped f m
 put-at f m r i o e eo k = rw e (k ∙ ap (λ (x : Object). accept m.address (Map i m) x) eo)
 
 -- ---- the checks
@@ -93,11 +90,11 @@ module _ (limit charge pages : ℕ) where
   unfolding over_limit
   not_over h = sym (le-ltb limit (charge + pages) h)
 
-pub room-is : (free : Found) (limit charge pages r1 r2 : ℕ) (sm over : Bool) → sm ≡ is_found free → over ≡ over_limit limit charge pages → r1 ≡ first (when over 12 ∷ []) 0 → r2 ≡ first (when (not sm) 12 ∷ []) r1
-    → r2 ≡ first (room_checks (option_of free) limit charge pages) 0
+pub room-is : (free : Option ℕ) (limit charge pages r1 r2 : ℕ) (sm over : Bool) → sm ≡ is_some free → over ≡ over_limit limit charge pages → r1 ≡ first (when over 12 ∷ []) 0 → r2 ≡ first (when (not sm) 12 ∷ []) r1
+    → r2 ≡ first (room_checks free limit charge pages) 0
 unfolding room_checks
 room-is free limit charge pages r1 r2 sm over es eo e1 e2 =
-    checked (not sm) (is_none (option_of free)) 12 r2 r1 0 _ e2 (ap (λ (b : Bool). not b) es ∙ none_found free) (checked-last over (over_limit limit charge pages) 12 r1 0 e1 eo)
+    checked (not sm) (is_none free) 12 r2 r1 0 _ e2 (ap (λ (b : Bool). not b) es) (checked-last over (over_limit limit charge pages) 12 r1 0 e1 eo)
 
 pub found-is : (backing flags s memory n x rights founder : ℕ) (w : Bool) → rights ≡ rights_of flags → w ≡ bit 1 flags → founder ≡ only_if w 1
     → ◌≡◌ {A = Mapping} record { space = s; rights = rights; founder = founder; backing = backing; address = x; length = n; memory = memory } (found_of backing flags s memory n x)

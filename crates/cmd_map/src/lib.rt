@@ -15,11 +15,10 @@ ghost use Rattle.check_mappings.specs.Told.{Told};
 ghost use Rattle.landing.specs.Placing.{Placed};
 ghost use Rattle.rules_calls.specs.Edits.{number_in};
 ghost use Rattle.rules_calls.specs.Map.{rights_of, mapped, no_right, wrong_length, fixed_passes, room_checks, over_limit, found_of};
-ghost use Rattle.edits.specs.Numbers.{map_number_checks_at, map_edit_at, option_of};
+ghost use Rattle.edits.specs.Numbers.{map_number_checks_at, map_edit_at};
 
 use check_mappings::Pass;
 use landing::{Placing, Target};
-use rangelists::Found;
 use rules_calls::{Change, Edit};
 use rules_table::Mapping;
 
@@ -39,21 +38,21 @@ pub fn rights_of(flags: u32) -> u32
 }
 
 // The number that was found, 0 where none was.
-fn number_in(f: Found) -> u32
-    requires { number_in (option_of f) ≤ 128 }
-    ensures { result ≡ number_in (option_of f) }
+fn number_in(f: Option<usize>) -> u32
+    requires { number_in f ≤ 128 }
+    ensures { result ≡ number_in f }
 {
     match f {
-        Found::Nothing => 0,
-        Found::At(n) => n as u32,
+        None => 0,
+        Some(n) => n as u32,
     }
 }
 
 // A mapping in the lowest free record, with its address as the reply.
-pub fn put_new(free: Found, m: Mapping) -> Edit
-    ensures { result ≡ mapped (option_of free) m }
+pub fn put_new(free: Option<usize>, m: Mapping) -> Edit
+    ensures { result ≡ mapped free m }
 {
-    let Found::At(i) = free else {
+    let Some(i) = free else {
         return edits::refusal(12);
     };
     let object = edits::free_object();
@@ -148,10 +147,10 @@ pub fn over_limit(limit: u64, charge: u64, pages: u64) -> bool
 }
 
 // A free record, and the charge within the limit.
-fn room_errno(free: Found, limit: u64, charge: u64, pages: u64) -> u8
-    ensures { result ≡ first (room_checks (option_of free) limit charge pages) 0 }
+fn room_errno(free: Option<usize>, limit: u64, charge: u64, pages: u64) -> u8
+    ensures { result ≡ first (room_checks free limit charge pages) 0 }
 {
-    let some = rangelists::is_found(free);
+    let some = free.is_some();
     let over = over_limit(limit, charge, pages);
     checks::refuse_if(!some, 12, checks::refuse_if(over, 12, 0))
 }

@@ -4,7 +4,6 @@
 ghost use Rattle.std.specs.Prelude.{List, ◌≡◌, ℕ, ◌+◌, ◌-◌, ◌*◌, ◌≤◌, ◌<◌, length};
 ghost use Rattle.lists.specs.Checks.{first};
 ghost use Rattle.lists.specs.Search.{any};
-ghost use Rattle.rangelists.specs.Listed.{found};
 ghost use Rattle.rules_table.specs.Records.{attached_to, object_at, space_at};
 ghost use Rattle.rules_table.specs.Charge.{free_record};
 ghost use Rattle.rules_table.specs.Words.{objects_in};
@@ -12,13 +11,13 @@ ghost use Rattle.rules_calls.specs.Objects.{alloc_edit, removal, destroy_edit};
 ghost use Rattle.rules_calls.specs.Allow.{number_at, column, area_list, with_allow, list_checks};
 ghost use Rattle.edits.specs.Numbers.{allow_number_checks_at, allow_edit_at, ranges_checks_at};
 
-use rangelists::{Allowed, Found};
+use rangelists::Allowed;
 use rules_calls::{Change, Edit};
 use rules_table::{Kind, Object};
 
 // free is the lowest free record.
-pub fn decide_alloc(free: Found, flags: u32) -> Edit
-    ensures { (os : List Object) → length os ≡ 32 → free ≡ found (free_record os) → result ≡ alloc_edit os flags }
+pub fn decide_alloc(free: Option<usize>, flags: u32) -> Edit
+    ensures { (os : List Object) → length os ≡ 32 → free ≡ free_record os → result ≡ alloc_edit os flags }
 {
     let errno = checks::refuse_if(flags != 0, 95, 0);
     if errno != 0 {

@@ -2,7 +2,6 @@
 #![tactic(auto)]
 
 ghost use Rattle.std.specs.Prelude.{List, ◌≡◌, ◌*◌, ◌%◌, ◌^◌, ◌≤◌, length};
-ghost use Rattle.rangelists.specs.Listed.{found};
 ghost use Rattle.wire.specs.Fields.{field};
 ghost use Rattle.rules_table.specs.Spaces.{alignment};
 ghost use Rattle.rules_table.specs.Charge.{free_record};
@@ -14,7 +13,6 @@ ghost use Rattle.rules_calls.specs.Objects.{alloc_edit};
 ghost use Rattle.cmd_space_bytes.specs.Replied.{RangesReply, RangesDone};
 ghost use Rattle.edits.specs.Numbers.{allow_edit_at};
 
-use rangelists::Found;
 use rules_calls::Edit;
 use rules_table::Object;
 
@@ -29,9 +27,9 @@ fn write_id(cmd: &mut [u8], errno: u8, id: u64)
 }
 
 // IOAS_ALLOC: a new space in the lowest free record. Its id is written.
-pub fn alloc(free: Found, cmd: &mut [u8]) -> Edit
+pub fn alloc(free: Option<usize>, cmd: &mut [u8]) -> Edit
     requires { 12 ≤ length cmd.old }
-    ensures { (os : List Object) → length os ≡ 32 → free ≡ found (free_record os)
+    ensures { (os : List Object) → length os ≡ 32 → free ≡ free_record os
         → (result ≡ alloc_edit os (field 4 cmd.old 4)) × (cmd.new ≡ replied 4 8 result.errno result.value cmd.old) }
 {
     let e = cmd_space::decide_alloc(free, wire::read32(cmd, 4));

@@ -90,9 +90,10 @@ pub fresh-made : (limit : ℕ) (z : ℤ) (t : Table) → limit ≤ 2 ^ 36 → t 
 unfolding fresh_answer signed_result
 fresh-made limit z t h e f = rw (e, f, le-ltb (2 ^ 36) limit h)
 
-pub fresh-table : (limit : ℕ) (o : Object) → o ≡ free_object → ◌≡◌ {A = Table} record { limit = limit; objects = replicate 32 o; mappings = replicate 128 zero_mapping } (fresh_table limit)
+pub fresh-table : (limit : ℕ) (o : Object) (m : Mapping) → o ≡ free_object → m ≡ zero_mapping
+    → ◌≡◌ {A = Table} record { limit = limit; objects = replicate 32 o; mappings = replicate 128 m } (fresh_table limit)
 unfolding fresh_table
-fresh-table limit o e = rw e
+fresh-table limit o m e f = rw (e, f)
 
 -- an id, or the negative errno
 pub id_refused : (n v : ℕ) → (n ≡ 0 → ⊥) → signed_result n ≡ id_or n v

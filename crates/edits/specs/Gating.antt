@@ -1,9 +1,9 @@
 -- What each return of a command gives: a refusal at the gate, or the outcome of the edit that was decided, with its reply.
-use Rattle.std.specs.Prelude.{ℕ, ◌≤◌, ◌≡◌, refl, Bool, true, false, List, length}
+use Rattle.std.specs.Prelude.{ℕ, ◌≤◌, ◌≡◌, refl, Bool, true, false, List, length, Ok, Err}
 use Rattle.std.proofs.Common.{sym, ap, ◌∙◌, arith, eq-eqb, ne_eqb}
 use Rattle.rules_calls.specs.declared.Command.{Command}
-use Rattle.rules_calls.specs.declared.Opening.{Opening}
-use Rattle.rules_calls.specs.declared.Opening.TheVariants.{UnknownRequest, NoSizeField, SizeTooSmall, SizePastBytes, TailNotZero, Open}
+use Rattle.rules_calls.specs.Opening.{Opening}
+use Rattle.rules_calls.specs.declared.Unopened.TheVariants.{UnknownRequest, NoSizeField, SizeTooSmall, SizePastBytes, TailNotZero}
 use Rattle.rules_calls.specs.Requests.{request_of, lookup}
 use Rattle.rules_calls.specs.Opening.{opened, opening_errno}
 use Rattle.opening.specs.Opened.{opened-open}
@@ -16,13 +16,13 @@ use Rattle.rules_calls.specs.Gate.{gate_errno}
 
 -- ---- the gate
 
-open_of : (o : Opening) → opening_errno o ≡ 0 → (c : Command) × (o ≡ Open c)
-open_of UnknownRequest e = absurd (omega arith)
-open_of NoSizeField e = absurd (omega arith)
-open_of SizeTooSmall e = absurd (omega arith)
-open_of SizePastBytes e = absurd (omega arith)
-open_of TailNotZero e = absurd (omega arith)
-open_of (Open c) e = (c, refl)
+open_of : (o : Opening) → opening_errno o ≡ 0 → (c : Command) × (o ≡ Ok c)
+open_of (Err UnknownRequest) e = absurd (omega arith)
+open_of (Err NoSizeField) e = absurd (omega arith)
+open_of (Err SizeTooSmall) e = absurd (omega arith)
+open_of (Err SizePastBytes) e = absurd (omega arith)
+open_of (Err TailNotZero) e = absurd (omega arith)
+open_of (Ok c) e = (c, refl)
 
 -- two commands with one number have one size
 same_size : (c d : Command) → (request_of c).number ≡ (request_of d).number → (request_of c).size ≡ (request_of d).size

@@ -1,7 +1,6 @@
 -- An edit keeps a sound table sound, given what the checks of its call have shown of the new object.
-use Rattle.std.specs.Prelude.{ℕ, zero, suc, ◌+◌, ◌≤◌, ◌<◌, ◌≡◌, refl, Bool, true, false, List, map, eqb, get_or, set}
+use Rattle.std.specs.Prelude.{ℕ, zero, suc, ◌+◌, ◌≤◌, ◌<◌, ◌≡◌, refl, Bool, true, false, List, map, eqb, get_or, set, Option, None, Some}
 use Rattle.std.proofs.Common.{sym, ap, ◌∙◌, add-one, arith, length-set}
-use Rattle.std.proofs.Math.Option.{Option, none, some}
 use Rattle.std.proofs.Math.ListN as ListN
 use Rattle.std.proofs.lemmas.List.{length-map}
 use Rattle.std.proofs.lemmas.Bool.{lt-leb, eqb-false}
@@ -122,12 +121,12 @@ settle-sound t (suc n) e g h = g
 -- ---- a new object in the lowest free record
 
 -- the lowest free record lies in the table, is no space and is attached to none
-pub free-slot : (os : List Object) (i : ℕ) → free_record os ≡ some i → (i < ListN.length os) × (space_at os (suc i) ≡ false) × ((s : ℕ) → attached_to s (get_or os i free_object).kind ≡ false)
+pub free-slot : (os : List Object) (i : ℕ) → free_record os ≡ Some i → (i < ListN.length os) × (space_at os (suc i) ≡ false) × ((s : ℕ) → attached_to s (get_or os i free_object).kind ≡ false)
 unfolding free_record space_at
 free-slot os i e =
     let lt = seek-some_lt (λ (o : Object). is_free o.kind) 0 os i e in
     let z : i ≡ 0 + i = omega arith in
-    let at = seek-some_at (λ (o : Object). is_free o.kind) 0 os free_object i (e ∙ ap some z) in
+    let at = seek-some_at (λ (o : Object). is_free o.kind) 0 os free_object i (e ∙ ap Some z) in
     let h : i < ListN.length os = omega (arith, lt.1) in
     (h, ap (λ (o : Object). is_space o.kind) (object_at-slot os i free_object h) ∙ free-no_space (get_or os i free_object).kind at, λ s. free-no_device s (get_or os i free_object).kind at)
   where
@@ -147,8 +146,8 @@ unfolding applied
 added-sound t n g q ok = go (free_record t.objects) refl
   where
     go : (o : Option ℕ) → free_record t.objects ≡ o → Sound (applied t (added o n))
-    go none e = g
-    go (some i) e =
+    go None e = g
+    go (Some i) e =
         let p = free-slot t.objects i e in
         put-sound t i n g (omega (arith, p.0, g.places))
         (hosts_none t.objects i n (none-attached t.objects (suc i) g.objects p.1))
@@ -161,5 +160,5 @@ unfolding free_record
 added-value os n l = go (free_record os) refl
   where
     go : (o : Option ℕ) → free_record os ≡ o → (added o n).value < 256
-    go none e = omega arith
-    go (some i) e = let p = seek-some_lt (λ (o : Object). is_free o.kind) 0 os i e in omega (arith, p.1)
+    go None e = omega arith
+    go (Some i) e = let p = seek-some_lt (λ (o : Object). is_free o.kind) 0 os i e in omega (arith, p.1)

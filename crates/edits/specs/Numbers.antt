@@ -1,14 +1,10 @@
 -- The rules of five commands by the numbers of their fields, as the laws and the code hold them: each is the rule on the record of these numbers. And what a search found, as
 -- the code's enum has it.
-use Rattle.std.specs.Prelude.{ℕ, ◌≤◌, ◌≡◌, refl, not, List}
-use Rattle.std.proofs.Math.Option.{Option, none, some}
+use Rattle.std.specs.Prelude.{ℕ, ◌≤◌, ◌≡◌, refl, not, List, Option, None, Some, is_some}
 use Rattle.std.proofs.Common.{arith}
 use Rattle.lists.specs.Tests.{by-test}
 use Rattle.lists.specs.Checks.{Check}
 use Rattle.ranges.specs.Ranges.{U64MAX, span, span-some}
-use Rattle.rangelists.specs.declared.Found.{Found}
-use Rattle.rangelists.specs.declared.Found.TheVariants.{Nothing, At}
-use Rattle.rangelists.specs.Listed.{found, is_found}
 use Rattle.rules_table.specs.declared.Object.{Object}
 use Rattle.rules_table.specs.declared.Mapping.{Mapping}
 use Rattle.rules_calls.specs.declared.Edit.{Edit}
@@ -80,17 +76,3 @@ ranges_checks_at os s count z room = ranges_checks os (ranges_of s count z) room
 
 abbrev pub ranges_errno_at : List Object → ℕ → ℕ → ℕ → List ℕ → ℕ
 ranges_errno_at os s count z area = ranges_errno os (ranges_of s count z) area
-
--- ---- a number that was found
-
-abbrev pub option_of : Found → Option ℕ
-option_of Nothing = none
-option_of (At n) = some n
-
-pub option_found : (o : Option ℕ) → option_of (found o) ≡ o
-option_found none = refl
-option_found (some n) = refl
-
-pub none_found : (f : Found) → not (is_found f) ≡ is_none (option_of f)
-none_found Nothing = refl
-none_found (At n) = refl

@@ -1,5 +1,5 @@
 -- What a command leaves: its edit, applied, and its reply. A refusal writes none: only 0, and 90 of IOVA_RANGES, write one, and 90 is no errno of what comes before a command.
-use Rattle.std.specs.Prelude.{ℕ, zero, suc, ◌≡◌, refl, false, List}
+use Rattle.std.specs.Prelude.{ℕ, zero, suc, ◌≡◌, refl, false, List, Option, Some, None, Ok, Err}
 use Rattle.std.proofs.Common.{sym, ◌∙◌, arith, eq-eqb, ne_eqb}
 use Rattle.lists.specs.Tests.{by-test}
 use Rattle.lists.specs.Search.{find}
@@ -8,10 +8,8 @@ use Rattle.rules_table.specs.declared.Table.{Table}
 use Rattle.rules_table.specs.Good.{good}
 use Rattle.rules_calls.specs.declared.Command.{Command}
 use Rattle.rules_calls.specs.declared.Command.TheVariants.{Destroy, IoasAlloc, AllowIovas, Copy, IovaRanges, Map, Unmap}
-use Rattle.rules_calls.specs.declared.Row.{Row}
-use Rattle.rules_calls.specs.declared.Row.TheVariants.{Unlisted, Listed}
-use Rattle.rules_calls.specs.declared.Opening.{Opening}
-use Rattle.rules_calls.specs.declared.Opening.TheVariants.{UnknownRequest, NoSizeField, SizeTooSmall, SizePastBytes, TailNotZero, Open}
+use Rattle.rules_calls.specs.Opening.{Opening}
+use Rattle.rules_calls.specs.declared.Unopened.TheVariants.{UnknownRequest, NoSizeField, SizeTooSmall, SizePastBytes, TailNotZero}
 use Rattle.rules_calls.specs.declared.Edit.{Edit}
 use Rattle.rules_calls.specs.Edits.{refuse, settle, applied}
 use Rattle.rules_calls.specs.Requests.{number, commands, lookup}
@@ -49,9 +47,9 @@ module _ (t : Table) (e : Edit) (bytes area : List ℕ) (h : e.errno ≡ 0 → �
   command-kept Unmap = (unwritten 8 16 e.errno e.value bytes h, refl)
 
   -- THE LAW
-  pub row_kept : (r : Row) → Kept (row_done r t e bytes area) bytes area
-  row_kept Unlisted = (refl, refl)
-  row_kept (Listed c size) = command-kept c
+  pub row_kept : (r : Option Command) → Kept (row_done r t e bytes area) bytes area
+  row_kept None = (refl, refl)
+  row_kept (Some c) = command-kept c
 
 -- no errno of the gate is 90
 pub gate-90 : (t : Table) (n : ℕ) (bytes : List ℕ) → gate_errno t n bytes ≡ 90 → ⊥
@@ -59,12 +57,12 @@ unfolding gate_errno
 gate-90 t n bytes e = by-test (good t) (λ g. open_90 (opened n bytes) (sym (rw g) ∙ e)) (λ g. let z : ◌≡◌ {A = ℕ} 117 90 = sym (rw g) ∙ e in omega (arith, z))
   where
     open_90 : (o : Opening) → opening_errno o ≡ 90 → ⊥
-    open_90 UnknownRequest e = omega (arith, e)
-    open_90 NoSizeField e = omega (arith, e)
-    open_90 SizeTooSmall e = omega (arith, e)
-    open_90 SizePastBytes e = omega (arith, e)
-    open_90 TailNotZero e = omega (arith, e)
-    open_90 (Open c) e = omega (arith, e)
+    open_90 (Err UnknownRequest) e = omega (arith, e)
+    open_90 (Err NoSizeField) e = omega (arith, e)
+    open_90 (Err SizeTooSmall) e = omega (arith, e)
+    open_90 (Err SizePastBytes) e = omega (arith, e)
+    open_90 (Err TailNotZero) e = omega (arith, e)
+    open_90 (Ok c) e = omega (arith, e)
 
 -- an edit that changes nothing leaves the table: a request that is not listed, and IOVA_RANGES
 refusal_stays : (t : Table) (n k : ℕ) → applied t (settle n (refuse k)) ≡ t
@@ -76,20 +74,20 @@ pub ranges-stays : (t : Table) (bytes area : List ℕ) → (outcome t (call_edit
 unfolding call_edit lookup commands find outcome
 ranges-stays t bytes area = refusal_stays t (gate_errno t (number IovaRanges) bytes) (ranges_errno t.objects (ranges_fields bytes) area)
 
-pub unlisted-stays : (t : Table) (request : ℕ) (bytes area : List ℕ) → lookup request ≡ Unlisted → (outcome t (call_edit t request bytes area)).table ≡ t
+pub unlisted-stays : (t : Table) (request : ℕ) (bytes area : List ℕ) → lookup request ≡ None → (outcome t (call_edit t request bytes area)).table ≡ t
 unfolding call_edit outcome
 unlisted-stays t request bytes area f = rw f (refusal_stays t (gate_errno t request bytes) 25)
 
 -- THE LAW: the answer of a command is its edit, applied
-pub row-edit : (r : Row) (t : Table) (e : Edit) (bytes area : List ℕ) → (row_done r t e bytes area).answer ≡ outcome t e
-row-edit Unlisted t e bytes area = refl
-row-edit (Listed Destroy size) t e bytes area = refl
-row-edit (Listed IoasAlloc size) t e bytes area = refl
-row-edit (Listed AllowIovas size) t e bytes area = refl
-row-edit (Listed Copy size) t e bytes area = refl
-row-edit (Listed IovaRanges size) t e bytes area = refl
-row-edit (Listed Map size) t e bytes area = refl
-row-edit (Listed Unmap size) t e bytes area = refl
+pub row-edit : (r : Option Command) (t : Table) (e : Edit) (bytes area : List ℕ) → (row_done r t e bytes area).answer ≡ outcome t e
+row-edit None t e bytes area = refl
+row-edit (Some Destroy) t e bytes area = refl
+row-edit (Some IoasAlloc) t e bytes area = refl
+row-edit (Some AllowIovas) t e bytes area = refl
+row-edit (Some Copy) t e bytes area = refl
+row-edit (Some IovaRanges) t e bytes area = refl
+row-edit (Some Map) t e bytes area = refl
+row-edit (Some Unmap) t e bytes area = refl
 
 pub call-edit : (t : Table) (request : ℕ) (bytes area : List ℕ) → (call_done t request bytes area).answer ≡ outcome t (call_edit t request bytes area)
 unfolding call_done

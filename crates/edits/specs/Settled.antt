@@ -1,7 +1,6 @@
 -- Checks one by one, and an edit after them: a refusal where one fired, else what the call changes.
-use Rattle.std.specs.Prelude.{ℕ, zero, suc, ◌≤◌, ◌≡◌, refl, Bool, true, false, List, [], ◌∷◌, ◌++◌}
+use Rattle.std.specs.Prelude.{ℕ, zero, suc, ◌≤◌, ◌≡◌, refl, Bool, true, false, List, [], ◌∷◌, ◌++◌, Option, None, Some}
 use Rattle.std.proofs.Common.{sym, ap, ◌∙◌, arith}
-use Rattle.std.proofs.Math.Option.{Option, none, some}
 use Rattle.lists.specs.Tests.{by-test, contrary}
 use Rattle.lists.specs.Checks.{Check, when, first, first-append, first-fires, first_passes}
 use Rattle.rules_table.specs.declared.Object.{Object}
@@ -39,8 +38,8 @@ full (c ∷ cs) =
 
 pub settle-record : (cs : List (Check ℕ)) (f : Option ℕ) (n : Object) → settle (first cs 0) (added f n) ≡ settle (first (cs ++ no_record f ∷ []) 0) (added f n)
 unfolding first
-settle-record cs none n = sym (ap (λ (x : ℕ). settle x (refuse 12)) (first-append cs (no_record none ∷ []) 0) ∙ full cs)
-settle-record cs (some i) n = sym (ap (λ (x : ℕ). settle x (added (some i) n)) (first-append cs (no_record (some i) ∷ []) 0))
+settle-record cs None n = sym (ap (λ (x : ℕ). settle x (refuse 12)) (first-append cs (no_record None ∷ []) 0) ∙ full cs)
+settle-record cs (Some i) n = sym (ap (λ (x : ℕ). settle x (added (Some i) n)) (first-append cs (no_record (Some i) ∷ []) 0))
 
 -- a space has an id from 1 on
 pub space-id : (os : List Object) (id : ℕ) → is_space (object_at os id).kind ≡ true → 1 ≤ id

@@ -1,7 +1,6 @@
 -- Laws of what an edit leaves untouched: an object that is replaced, mappings that are released, a new object in a free record.
-use Rattle.std.specs.Prelude.{ℕ, zero, suc, ◌+◌, ◌≡◌, refl, Bool, true, false, List, [], ◌∷◌, map, leb, eqb, get_or}
+use Rattle.std.specs.Prelude.{ℕ, zero, suc, ◌+◌, ◌≡◌, refl, Bool, true, false, List, [], ◌∷◌, map, leb, eqb, get_or, Option, None, Some}
 use Rattle.std.proofs.Common.{sym, ◌∙◌, add-one, eqb-true}
-use Rattle.std.proofs.Math.Option.{Option, none, some}
 use Rattle.std.proofs.Math.Seq.{map-set_same}
 use Rattle.lists.specs.Tests.{by-test, contrary}
 use Rattle.rules_table.specs.declared.Object.{Object}
@@ -65,7 +64,7 @@ unfolding applied
 added-untouched s t n g space new = go (free_record t.objects) refl
   where
     go : (o : Option ℕ) → free_record t.objects ≡ o → Untouched s t (applied t (added o n))
-    go none e = untouched-same s t
-    go (some i) e =
+    go None e = untouched-same s t
+    go (Some i) e =
         let p = free-slot t.objects i e in
         put-untouched s t i n (λ q. contrary (space_at t.objects (suc i)) (rw (← q) space) p.1) (p.2 s) new

@@ -6,33 +6,33 @@ ghost use Rattle.rules_table.specs.Records.{free_object, new_space, zero_mapping
 ghost use Rattle.rules_calls.specs.Edits.{refuse, accept, tells, applied, added};
 ghost use Rattle.rules_calls.specs.Answers.{outcome, outcome_id, fresh_answer};
 ghost use Rattle.edits.specs.Parts.{put_object, drop_space, put_mapping, clear_inside};
-ghost use Rattle.rangelists.specs.Listed.{found};
 ghost use Rattle.rules_table.specs.Charge.{free_record};
 
-use rangelists::{Allowed, Found, Reserved};
+use rangelists::{Allowed, Reserved};
 use ranges::Range;
 use rules_calls::{Answer, Change, Edit};
 use rules_table::{Kind, Mapping, Object, Table};
+
+// The highest limit that a table may have: 2^36 pages.
+const HIGHEST_LIMIT: u64 = 0x10_0000_0000;
 
 // A released object record.
 pub fn free_object() -> Object
     ensures { result ≡ free_object }
 {
-    let reserved = Reserved {
-        count: 0,
-        starts: [0; 4],
-        lasts: [0; 4],
-    };
-    let allow = Allowed {
-        count: 0,
-        starts: [0; 8],
-        lasts: [0; 8],
-    };
     Object {
         kind: Kind::Free,
         bitmap: 0,
-        reserved,
-        allow,
+        reserved: Reserved {
+            count: 0,
+            starts: [0; 4],
+            lasts: [0; 4],
+        },
+        allow: Allowed {
+            count: 0,
+            starts: [0; 8],
+            lasts: [0; 8],
+        },
     }
 }
 
@@ -40,33 +40,20 @@ pub fn free_object() -> Object
 pub fn new_space() -> Object
     ensures { result ≡ new_space }
 {
-    let reserved = Reserved {
-        count: 0,
-        starts: [0; 4],
-        lasts: [0; 4],
-    };
-    let allow = Allowed {
-        count: 0,
-        starts: [0; 8],
-        lasts: [0; 8],
-    };
     Object {
         kind: Kind::Space,
-        bitmap: 0,
-        reserved,
-        allow,
+        ..free_object()
     }
 }
 
 pub fn refusal(errno: u8) -> Edit
     ensures { result ≡ refuse errno }
 {
-    let object = free_object();
     Edit {
         errno,
         value: 0,
         change: Change::Nothing,
-        object,
+        object: free_object(),
     }
 }
 
@@ -85,8 +72,7 @@ pub fn acceptance(value: u64, change: Change, object: Object) -> Edit
 pub fn tell(value: u64) -> Edit
     ensures { result ≡ tells value }
 {
-    let object = free_object();
-    acceptance(value, Change::Nothing, object)
+    acceptance(value, Change::Nothing, free_object())
 }
 
 pub fn put_object(t: Table, i: usize, object: Object) -> Table
@@ -100,22 +86,26 @@ pub fn put_object(t: Table, i: usize, object: Object) -> Table
     next
 }
 
+// A mapping record that holds nothing.
+fn zero_mapping() -> Mapping
+    ensures { result ≡ zero_mapping }
+{
+    Mapping {
+        space: 0,
+        rights: 0,
+        founder: 0,
+        backing: 0,
+        address: 0,
+        length: 0,
+        memory: 0,
+    }
+}
+
 // A record that goes becomes all zero, another stays.
 fn released(gone: bool, m: Mapping) -> Mapping
     ensures { result ≡ cond gone zero_mapping m }
 {
-    if gone {
-        return Mapping {
-            space: 0,
-            rights: 0,
-            founder: 0,
-            backing: 0,
-            address: 0,
-            length: 0,
-            memory: 0,
-        };
-    }
-    m
+    if gone { zero_mapping() } else { m }
 }
 
 // The mapping records with those of a space inside a range released.
@@ -123,13 +113,9 @@ fn cleared(ms: [Mapping; 128], s: u32, r: Range) -> [Mapping; 128]
     ensures { result ≡ map (release (within s r)) ms }
 {
     let mut next = ms;
-    let mut k: usize = 0;
-    while k < 128 {
+    for k in 0..128 {
         let m = ms[k];
-        let gone = table::is_within(m, s, r);
-        let kept = released(gone, m);
-        next[k] = kept;
-        k += 1;
+        next[k] = released(table::is_within(m, s, r), m);
     }
     next
 }
@@ -148,10 +134,8 @@ pub fn put_mapping(t: Table, i: usize, m: Mapping) -> Table
 pub fn clear_inside(t: Table, s: u32, r: Range) -> Table
     ensures { result ≡ clear_inside t s r }
 {
-    let ms = t.mappings;
-    let kept = cleared(ms, s, r);
     let mut next = t;
-    next.mappings = kept;
+    next.mappings = cleared(t.mappings, s, r);
     next
 }
 
@@ -161,29 +145,22 @@ pub fn drop_space(t: Table, i: usize) -> Table
     if 32 <= i {
         return t;
     }
-    let object = free_object();
-    let ms = t.mappings;
     let all = Range {
         start: 0,
         last: ranges::U64MAX,
     };
-    let kept = cleared(ms, (i + 1) as u32, all);
     let mut next = t;
-    next.objects[i] = object;
-    next.mappings = kept;
+    next.objects[i] = free_object();
+    next.mappings = cleared(t.mappings, (i + 1) as u32, all);
     next
 }
 
 pub fn apply(t: Table, e: Edit) -> Table
     ensures { result ≡ applied t e }
 {
-    let change = e.change;
-    match change {
+    match e.change {
         Change::Nothing => t,
-        Change::Put(i) => {
-            let object = e.object;
-            put_object(t, i, object)
-        }
+        Change::Put(i) => put_object(t, i, e.object),
         Change::Drop(i) => drop_space(t, i),
         Change::Map(i, m) => put_mapping(t, i, m),
         Change::Clear(s, r) => clear_inside(t, s, r),
@@ -194,11 +171,9 @@ pub fn apply(t: Table, e: Edit) -> Table
 pub fn settled(t: Table, e: Edit) -> Answer
     ensures { result ≡ outcome t e }
 {
-    let errno = e.errno;
-    let table = apply(t, e);
     Answer {
-        result: opening::signed_result(errno),
-        table,
+        result: opening::signed_result(e.errno),
+        table: apply(t, e),
     }
 }
 
@@ -207,18 +182,14 @@ pub fn settled_id(t: Table, e: Edit) -> Answer
     requires { e.value < 256 }
     ensures { result ≡ outcome_id t e }
 {
-    let errno = e.errno;
-    let id = e.value as u8;
-    let table = apply(t, e);
-    if errno != 0 {
-        return Answer {
-            result: opening::signed_result(errno),
-            table,
-        };
-    }
+    let result = if e.errno == 0 {
+        opening::id_result(e.value as u8)
+    } else {
+        opening::signed_result(e.errno)
+    };
     Answer {
-        result: opening::id_result(id),
-        table,
+        result,
+        table: apply(t, e),
     }
 }
 
@@ -226,34 +197,20 @@ pub fn settled_id(t: Table, e: Edit) -> Answer
 pub fn fresh(limit: u64) -> Answer
     ensures { result ≡ fresh_answer limit }
 {
-    let object = free_object();
-    let objects = [object; 32];
-    let mapping = Mapping {
-        space: 0,
-        rights: 0,
-        founder: 0,
-        backing: 0,
-        address: 0,
-        length: 0,
-        memory: 0,
-    };
-    let mappings = [mapping; 128];
     let table = Table {
         limit,
-        objects,
-        mappings,
+        objects: [free_object(); 32],
+        mappings: [zero_mapping(); 128],
     };
-    if 0x10_0000_0000 < limit {
-        return Answer { result: -22, table };
-    }
-    Answer { result: 0, table }
+    let result = if limit <= HIGHEST_LIMIT { 0 } else { -22 };
+    Answer { result, table }
 }
 
 // A new object in the lowest free record.
-pub fn add_new(free: Found, object: Object) -> Edit
-    ensures { (os : List Object) → length os ≡ 32 → free ≡ found (free_record os) → result ≡ added (free_record os) object }
+pub fn add_new(free: Option<usize>, object: Object) -> Edit
+    ensures { (os : List Object) → length os ≡ 32 → free ≡ free_record os → result ≡ added (free_record os) object }
 {
-    let Found::At(i) = free else {
+    let Some(i) = free else {
         return refusal(12);
     };
     if 32 <= i {
@@ -266,5 +223,5 @@ pub fn add_new(free: Found, object: Object) -> Edit
 pub fn slot_of(id: u32) -> usize
     ensures { result ≡ id - 1 }
 {
-    if id == 0 { 0 } else { (id - 1) as usize }
+    (id as usize).saturating_sub(1)
 }

@@ -1,4 +1,5 @@
 -- The opening by its reasons.
+use Rattle.std.specs.Prelude.{Option, Some, Ok, Err}
 use Prim.Native.Nat.{ℕ, zero, suc, ◌≤◌, ◌<◌}
 use mathlib.Core.Path.{◌≡◌, refl, sym, ap, subst, ◌∙◌}
 use mathlib.Core.Bool.{Bool, true, false, not}
@@ -16,13 +17,10 @@ use Rattle.rules_calls.specs.Map.{map_fields}
 use Rattle.rules_calls.specs.Copy.{copy_fields}
 use Rattle.landing.specs.declared.Target.{Target}
 use Rattle.rules_calls.specs.declared.Command.{Command}
-use Rattle.rules_calls.specs.declared.Row.{Row}
-use Rattle.rules_calls.specs.declared.Row.TheVariants.{Listed}
-use Rattle.rules_calls.specs.declared.Opening.{Opening}
-use Rattle.rules_calls.specs.declared.Opening.TheVariants.{NoSizeField, SizeTooSmall, SizePastBytes, TailNotZero, Open}
+use Rattle.rules_calls.specs.Opening.{Opening}
+use Rattle.rules_calls.specs.declared.Unopened.TheVariants.{NoSizeField, SizeTooSmall, SizePastBytes, TailNotZero}
 use Rattle.rules_calls.specs.Requests.{request_of, lookup}
 use Rattle.rules_calls.specs.Opening.{size_field, tail, size_checks, open_checks, open_row, opened}
-use Rattle.opening.specs.Opened.{row_number}
 use Rattle.check_mappings.specs.Told.{page_of}
 use Rattle.rules_reasons.specs.declared.Reason.{Reason}
 use Rattle.rules_reasons.specs.declared.Reason.TheVariants as reason
@@ -35,30 +33,28 @@ use Rattle.explain.specs.Answered.{opening_reason}
 
 module _ (c : Command) where
   -- one check more, on both sides
-  next : (b : Bool) (o : Opening) (n : Reason) (cs : List (Check Opening)) (ds : List (Check Reason)) → opening_reason o ≡ n → opening_reason (first cs (Open c)) ≡ first ds reason.Accepted
-      → opening_reason (first (when b o ∷ cs) (Open c)) ≡ first (when b n ∷ ds) reason.Accepted
+  next : (b : Bool) (o : Opening) (n : Reason) (cs : List (Check Opening)) (ds : List (Check Reason)) → opening_reason o ≡ n → opening_reason (first cs (Ok c)) ≡ first ds reason.Accepted
+      → opening_reason (first (when b o ∷ cs) (Ok c)) ≡ first (when b n ∷ ds) reason.Accepted
   next b o n cs ds e rest =
       by-test b
-      (λ t. ap (λ (q : Opening). opening_reason q) (first-fires (when b o) cs (Open c) t) ∙ e ∙ sym (first-fires (when b n) ds reason.Accepted t))
-      (λ t. ap (λ (q : Opening). opening_reason q) (first_passes (when b o) cs (Open c) t) ∙ rest ∙ sym (first_passes (when b n) ds reason.Accepted t))
+      (λ t. ap (λ (q : Opening). opening_reason q) (first-fires (when b o) cs (Ok c) t) ∙ e ∙ sym (first-fires (when b n) ds reason.Accepted t))
+      (λ t. ap (λ (q : Opening). opening_reason q) (first_passes (when b o) cs (Ok c) t) ∙ rest ∙ sym (first_passes (when b n) ds reason.Accepted t))
 
-  named-is : (known : ℕ) (bytes : List ℕ) → opening_reason (first (open_checks known bytes) (Open c)) ≡ open_or known bytes reason.Accepted
+  named-is : (known : ℕ) (bytes : List ℕ) → opening_reason (first (open_checks known bytes) (Ok c)) ≡ open_or known bytes reason.Accepted
   unfolding open_or open_checks size_checks named
   named-is known bytes =
-      next _ NoSizeField reason.NoSizeField _ _ refl
-      (next _ SizeTooSmall reason.SizeTooSmall _ _ refl
-      (next _ SizePastBytes reason.SizePastBytes _ _ refl
-      (next _ TailNotZero reason.TailNotZero [] [] refl
-      (ap (λ (q : Opening). opening_reason q) (first-nil (Open c)) ∙ sym (first-nil reason.Accepted)))))
+      next _ (Err NoSizeField) reason.NoSizeField _ _ refl
+      (next _ (Err SizeTooSmall) reason.SizeTooSmall _ _ refl
+      (next _ (Err SizePastBytes) reason.SizePastBytes _ _ refl
+      (next _ (Err TailNotZero) reason.TailNotZero [] [] refl
+      (ap (λ (q : Opening). opening_reason q) (first-nil (Ok c)) ∙ sym (first-nil reason.Accepted)))))
 
   -- what the code finds of a listed request
-  pub opened-is : (request : ℕ) (bytes : List ℕ) (row : Row) (known : ℕ) (o : Opening) (r : Reason) → row ≡ lookup request → row ≡ Listed c known → o ≡ opened request bytes → r ≡ opening_reason o
+  pub opened-is : (request : ℕ) (bytes : List ℕ) (row : Option Command) (o : Opening) (r : Reason) → row ≡ lookup request → row ≡ Some c → o ≡ opened request bytes → r ≡ opening_reason o
       → r ≡ open_or (request_of c).size bytes reason.Accepted
   unfolding opened
-  opened-is request bytes row known o r e f g k =
-      let l : lookup request ≡ Listed c known = sym e ∙ f in
-      k ∙ ap (λ (q : Opening). opening_reason q) (g ∙ ap (λ (q : Row). open_row q bytes) l) ∙ named-is known bytes
-      ∙ ap (λ (n : ℕ). open_or n bytes reason.Accepted) (sym (row_number request c known l).1)
+  opened-is request bytes row o r e f g k =
+      k ∙ ap (λ (q : Opening). opening_reason q) (g ∙ ap (λ (q : Option Command). open_row q bytes) (sym e ∙ f)) ∙ named-is (request_of c).size bytes
 
 module _ (known : ℕ) (bytes : List ℕ) where
   abbrev checks : List (Check Reason)

@@ -1,10 +1,9 @@
 // The tool (L1): it takes a table and a MAP or a COPY by request and bytes, and names the first failing check, those of the opening too. The table is only read.
 #![tactic(auto)]
 
-ghost use Rattle.std.specs.Prelude.{List, ◌≡◌, ℕ, length};
+ghost use Rattle.std.specs.Prelude.{List, ◌≡◌, ℕ, length, Some};
 ghost use Rattle.rules_table.specs.Layout.{table_of};
 ghost use Rattle.rules_table.specs.Words.{head_in, objects_in};
-ghost use Rattle.rules_calls.specs.declared.Row.TheVariants.{Listed};
 ghost use Rattle.rules_calls.specs.Gate.{table_with};
 ghost use Rattle.rules_calls.specs.Requests.{request_of};
 ghost use Rattle.rules_calls.specs.Map.{map_fields};
@@ -19,21 +18,21 @@ ghost use Rattle.explain.specs.Answered.{opening_reason, Answered};
 
 use check_table::Findings;
 use landing::Target;
-use rules_calls::{Command, Opening, Row};
-use rules_reasons::{Explained, Reason};
+use rules_calls::{Command, Unopened};
+use rules_reasons::Reason;
 use rules_table::Table;
 
 // What stood in the way of the opening.
-fn opening_reason(o: Opening) -> Reason
-    ensures { result ≡ opening_reason o }
+fn opening_reason(opening: Result<Command, Unopened>) -> Reason
+    ensures { result ≡ opening_reason opening }
 {
-    match o {
-        Opening::UnknownRequest => Reason::Accepted,
-        Opening::NoSizeField => Reason::NoSizeField,
-        Opening::SizeTooSmall => Reason::SizeTooSmall,
-        Opening::SizePastBytes => Reason::SizePastBytes,
-        Opening::TailNotZero => Reason::TailNotZero,
-        Opening::Open(_) => Reason::Accepted,
+    match opening {
+        Ok(_) => Reason::Accepted,
+        Err(Unopened::UnknownRequest) => Reason::Accepted,
+        Err(Unopened::NoSizeField) => Reason::NoSizeField,
+        Err(Unopened::SizeTooSmall) => Reason::SizeTooSmall,
+        Err(Unopened::SizePastBytes) => Reason::SizePastBytes,
+        Err(Unopened::TailNotZero) => Reason::TailNotZero,
     }
 }
 
@@ -109,24 +108,24 @@ fn explain_command<'a>(
     c: Command,
     opened: Reason,
     cmd: &'a [u8],
-) -> Explained
+) -> Result<Reason, u8>
     requires { (opened ≡ open_or (request_of c).size cmd.now Accepted) × Known (objects_in h.now) (records_of ws.now) ix.now pages.now marks.now f }
-    ensures { Answered (row_told (Listed c (request_of c).size) (table_with (head_in h.now).limit (objects_in h.now) (records_of ws.now)) cmd.now) result }
+    ensures { Answered (row_told (Some c) (table_with (head_in h.now).limit (objects_in h.now) (records_of ws.now)) cmd.now) result }
 {
     match c {
-        Command::Destroy => Explained::Refused(25),
-        Command::IoasAlloc => Explained::Refused(25),
-        Command::AllowIovas => Explained::Refused(25),
+        Command::Destroy => Err(25),
+        Command::IoasAlloc => Err(25),
+        Command::AllowIovas => Err(25),
         Command::Copy => {
             let r = copy_reason(h, ws, ix, pages, f, opened, cmd);
-            Explained::Told(r)
+            Ok(r)
         }
-        Command::IovaRanges => Explained::Refused(25),
+        Command::IovaRanges => Err(25),
         Command::Map => {
             let r = map_reason(h, ws, ix, pages, marks, f, opened, cmd);
-            Explained::Told(r)
+            Ok(r)
         }
-        Command::Unmap => Explained::Refused(25),
+        Command::Unmap => Err(25),
     }
 }
 
@@ -137,7 +136,7 @@ pub fn decide<'a>(
     ix: &'a [u64],
     request: u32,
     cmd: &'a [u8],
-) -> Explained
+) -> Result<Reason, u8>
     requires { length ws.now ≡ 128 }
     ensures { Answered (board_explained record { table = table_of (head_in h.now) (records_of ws.now); index = ix.now } request cmd.now) result }
 {
@@ -145,11 +144,10 @@ pub fn decide<'a>(
     let mut marks: [u8; 129] = [0; 129];
     let f = check_table::check(h, ws, ix, &mut pages, &mut marks);
     if !f.good {
-        return Explained::Refused(117);
+        return Err(117);
     }
-    let row = opening::look_up(request);
-    let Row::Listed(c, _) = row else {
-        return Explained::Refused(25);
+    let Some(c) = opening::look_up(request) else {
+        return Err(25);
     };
     let opening = opening::open(request, cmd);
     let opened = opening_reason(opening);
@@ -157,7 +155,7 @@ pub fn decide<'a>(
 }
 
 // The same of a table by value.
-pub fn explain(t: Table, request: u32, cmd: &[u8]) -> Explained
+pub fn explain(t: Table, request: u32, cmd: &[u8]) -> Result<Reason, u8>
     ensures { result ≡ explained t request cmd.now }
 {
     let os = t.objects;

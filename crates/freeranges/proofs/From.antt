@@ -10,7 +10,7 @@ use Rattle.freeranges.specs.Free.{U64END, held, free_from, Spaced, run, run_of, 
 use Rattle.freeranges.proofs.Free.{held-free_from, spaced-free_from, free_from-fits}
 use Rattle.freeranges.specs.From.{First}
 use Rattle.freeranges.specs.Scan.{gap_of}
-use Rattle.freeranges.specs.declared.Gap.TheVariants.{At}
+use Rattle.std.specs.Prelude.{Some}
 
 -- one place of the search for another, where all from the one to the other is reserved
 pub skipped : (rs : List Range) (x y : ℕ) → x ≤ y → ((a : ℕ) → x ≤ a → a < y → a < U64END → held rs a ≡ true) → free_from x rs ≡ free_from y rs
@@ -81,7 +81,7 @@ module _ (rs : List Range) (x s l : ℕ) (gs : List Range) (e : free_from x rs �
 
 -- ---- the next free range
 
-gap_at : (gs : List Range) (s l : ℕ) → At s l ≡ gap_of gs → (hs : List Range) × (gs ≡ range s l ∷ hs)
+gap_at : (gs : List Range) (s l : ℕ) → Some (range s l) ≡ gap_of gs → (hs : List Range) × (gs ≡ range s l ∷ hs)
 unfolding gap_of
 gap_at [] s l e = let z : ◌≡◌ {A = ℕ} 0 1 = cc in absurd (omega arith)
 gap_at (g ∷ gs) s l e =
@@ -91,5 +91,5 @@ gap_at (g ∷ gs) s l e =
 
 -- something is free from x on: a first range is
 module _ (rs : List Range) (x : ℕ) where
-  pub free-first : (s l : ℕ) → At s l ≡ gap_of (free_from x rs) → First rs x s l
+  pub free-first : (s l : ℕ) → Some (range s l) ≡ gap_of (free_from x rs) → First rs x s l
   free-first s l e = let w = gap_at (free_from x rs) s l e in first_of rs x s l w.0 w.1

@@ -1,4 +1,5 @@
 -- The tests of one range, and the two loops over a list of them.
+use Rattle.std.specs.Prelude.{Option, None, Some}
 use Prim.Native.Nat.{ℕ, ◌+◌, ◌≤◌, ◌<◌, min}
 use mathlib.Core.Path.{◌≡◌, refl, sym, ap, ◌∙◌}
 use mathlib.Core.Bool.{Bool, true, false}
@@ -12,13 +13,11 @@ use Rattle.ranges.specs.declared.Range.{Range}
 use Rattle.ranges.specs.Ranges.{U64MAX, range, holds}
 use Rattle.rangelists.specs.Listed.{listed, length-listed, get_d_listed, zero_range}
 use Rattle.freeranges.specs.Scan.{upto, cover_of, end_for, run_end, run_end-nil, run_end-cons, run_end-most}
-use Rattle.freeranges.specs.declared.Cover.{Cover}
-use Rattle.freeranges.specs.declared.Cover.TheVariants.{Clear, Upto}
 
 -- ---- one range
 
 module _ (start last x : ℕ) where
-  pub covers-above : x < start → false ≡ holds (range start last) x
+  pub covers-above : x < start → leb start x ≡ holds (range start last) x
   unfolding holds
   covers-above h = rw (lt-leb start x h)
 
@@ -43,13 +42,13 @@ module _ (n : ℕ) (ss ls : List ℕ) (hs : n ≤ length ss) (hl : n ≤ length 
   done : n ≤ i → length (listed n ss ls) ≤ i
   done h = rw (length-listed n ss ls hs hl) h
 
-  module _ {c : Cover} (v : upto (find (λ r. holds r x) (drop i (listed n ss ls))) ≡ c) where
+  module _ {c : Option ℕ} (v : upto (find (λ r. holds r x) (drop i (listed n ss ls))) ≡ c) where
     here : (t b : Bool) → t ≡ holds (range (get_or ss i 0) (get_or ls i 0)) x → t ≡ b → i < n → holds (get_or (listed n ss ls) i zero_range) x ≡ b
     here t b q e h = ap (λ (r : Range). holds r x) (get_d_listed n ss ls hs hl i h) ∙ sym q ∙ e
 
-    pub cover_found : (t : Bool) → t ≡ holds (range (get_or ss i 0) (get_or ls i 0)) x → t ≡ true → i < n → Upto (get_or ls i 0) ≡ c
+    pub cover_found : (t : Bool) → t ≡ holds (range (get_or ss i 0) (get_or ls i 0)) x → t ≡ true → i < n → Some (get_or ls i 0) ≡ c
     cover_found t q e h =
-        ap (λ (r : Range). Upto r.last) (sym (get_d_listed n ss ls hs hl i h))
+        ap (λ (r : Range). Some r.last) (sym (get_d_listed n ss ls hs hl i h))
         ∙ ap upto (find-found (λ r. holds r x) (listed n ss ls) i refl zero_range (place h) (here t true q e h))
         ∙ v
 
@@ -57,7 +56,7 @@ module _ (n : ℕ) (ss ls : List ℕ) (hs : n ≤ length ss) (hl : n ≤ length 
         → upto (find (λ r. holds r x) (drop (i + 1) (listed n ss ls))) ≡ c
     cover_on t q e h = ap upto (find-on (λ r. holds r x) (listed n ss ls) i refl zero_range (place h) (here t false q e h)) ∙ v
 
-    pub cover_end : n ≤ i → Clear ≡ c
+    pub cover_end : n ≤ i → None ≡ c
     cover_end h = ap upto (find-end (λ r. holds r x) (listed n ss ls) i refl (done h)) ∙ v
 
   module _ (acc : ℕ) {e : ℕ} (v : min acc (run_end (drop i (listed n ss ls)) x) ≡ e) where

@@ -1,50 +1,45 @@
 -- What the search for the next free range asks of the reserved ranges, and what it gives.
-use Rattle.std.specs.Prelude.{ℕ, ◌+◌, ◌-◌, ◌≤◌, ◌<◌, min, true, ◌&&◌, cond, List, [], ◌∷◌, leb, ltb}
+use Rattle.std.specs.Prelude.{ℕ, ◌+◌, ◌-◌, ◌≤◌, ◌<◌, min, true, ◌&&◌, cond, List, [], ◌∷◌, leb, ltb, Option, None, Some}
 use Rattle.std.proofs.Math.Path.{◌≡◌, refl}
 use Rattle.std.proofs.Common.{sym, ◌∙◌, arith}
 use Rattle.std.proofs.Math.Bool.{false}
-use Rattle.std.proofs.Math.Option.{Option, none, some}
 use borrow.Author.Tests.{leb-true, leb-false, le-leb, lt-leb, lt-ltb, le-ltb, ltb-true, ltb-false}
 use Rattle.lists.specs.Tests.{by-test, contrary, and_not_right, or_right, or_not_left, or_not_right}
 use Rattle.lists.specs.Search.{find, find_none, find-some, find-some_any}
 use Rattle.ranges.specs.declared.Range.{Range}
 use Rattle.ranges.specs.Ranges.{U64MAX, holds, holds-from, holds-upto, holds_of}
 use Rattle.freeranges.specs.Free.{U64END, held, free_from, held-nil, held_cons, holds-out}
-use Rattle.freeranges.specs.declared.Cover.{Cover}
-use Rattle.freeranges.specs.declared.Cover.TheVariants.{Clear, Upto}
-use Rattle.freeranges.specs.declared.Gap.{Gap}
-use Rattle.freeranges.specs.declared.Gap.TheVariants.{Nothing, At}
 
 -- ---- what holds x
 
 -- a range as what it covers: up to its last
-abbrev pub upto : Option Range → Cover
-upto none = Clear
-upto (some r) = Upto r.last
+abbrev pub upto : Option Range → Option ℕ
+upto None = None
+upto (Some r) = Some r.last
 
 -- the last of the first range that holds x
-unfoldable pub cover_of : List Range → ℕ → Cover
+unfoldable pub cover_of : List Range → ℕ → Option ℕ
 cover_of rs x = upto (find (λ r. holds r x) rs)
 
 module _ (rs : List Range) (x : ℕ) where
   -- clear: no range holds x
-  pub cover_clear : Clear ≡ cover_of rs x → held rs x ≡ false
+  pub cover_clear : None ≡ cover_of rs x → held rs x ≡ false
   unfolding cover_of
   cover_clear e = go (find (λ r. holds r x) rs) refl e
     where
-      go : (o : Option Range) → find (λ r. holds r x) rs ≡ o → Clear ≡ upto o → held rs x ≡ false
-      go none q w = find_none (λ r. holds r x) rs q
-      go (some r) q w = let z : ◌≡◌ {A = ℕ} 0 1 = cc in absurd (omega arith)
+      go : (o : Option Range) → find (λ r. holds r x) rs ≡ o → None ≡ upto o → held rs x ≡ false
+      go None q w = find_none (λ r. holds r x) rs q
+      go (Some r) q w = let z : ◌≡◌ {A = ℕ} 0 1 = cc in absurd (omega arith)
 
   -- up to l: all from x to l are reserved
-  module _ (l : ℕ) (e : Upto l ≡ cover_of rs x) where
-    upto-range : (r : Range) × (find (λ r. holds r x) rs ≡ some r) × (l ≡ r.last)
+  module _ (l : ℕ) (e : Some l ≡ cover_of rs x) where
+    upto-range : (r : Range) × (find (λ r. holds r x) rs ≡ Some r) × (l ≡ r.last)
     unfolding cover_of
     upto-range = go (find (λ r. holds r x) rs) refl e
       where
-        go : (o : Option Range) → find (λ r. holds r x) rs ≡ o → Upto l ≡ upto o → (r : Range) × (find (λ r. holds r x) rs ≡ some r) × (l ≡ r.last)
-        go none q w = let z : ◌≡◌ {A = ℕ} 0 1 = cc in absurd (omega arith)
-        go (some r) q w = (r, q, cc)
+        go : (o : Option Range) → find (λ r. holds r x) rs ≡ o → Some l ≡ upto o → (r : Range) × (find (λ r. holds r x) rs ≡ Some r) × (l ≡ r.last)
+        go None q w = let z : ◌≡◌ {A = ℕ} 0 1 = cc in absurd (omega arith)
+        go (Some r) q w = (r, q, cc)
 
     pub cover_from : x ≤ l
     cover_from = let w = upto-range in omega (arith, w.2, holds-upto w.0 x (find-some (λ r. holds r x) rs w.0 w.1))
@@ -143,24 +138,24 @@ module _ (x : ℕ) where
 -- ---- the next free range
 
 -- the first of some ranges
-unfoldable pub gap_of : List Range → Gap
-gap_of [] = Nothing
-gap_of (g ∷ gs) = At g.start g.last
+unfoldable pub gap_of : List Range → Option Range
+gap_of [] = None
+gap_of (g ∷ gs) = Some g
 
-pub gap_none : Nothing ≡ gap_of []
+pub gap_none : None ≡ gap_of []
 unfolding gap_of
 gap_none = refl
 
-pub gap_first : (g : Range) (gs : List Range) → At g.start g.last ≡ gap_of (g ∷ gs)
+pub gap_first : (g : Range) (gs : List Range) → Some g ≡ gap_of (g ∷ gs)
 unfolding gap_of
 gap_first g gs = refl
 
-gap_nothing : (gs : List Range) → Nothing ≡ gap_of gs → gs ≡ []
+gap_nothing : (gs : List Range) → None ≡ gap_of gs → gs ≡ []
 unfolding gap_of
 gap_nothing [] e = refl
 gap_nothing (g ∷ gs) e = let z : ◌≡◌ {A = ℕ} 0 1 = cc in absurd (omega arith)
 
 -- nothing is free from x on
 module _ (rs : List Range) (x : ℕ) where
-  pub free-nothing : Nothing ≡ gap_of (free_from x rs) → free_from x rs ≡ []
+  pub free-nothing : None ≡ gap_of (free_from x rs) → free_from x rs ≡ []
   free-nothing e = gap_nothing (free_from x rs) e

@@ -9,57 +9,35 @@ ghost use Rattle.freeranges.specs.Written.{put_range};
 
 use ranges::U64MAX;
 
-// What holds an address: nothing, or a range up to its last.
-#[derive(Clone, Copy)]
-pub enum Cover {
-    Clear,
-    Upto(u64),
-}
-
-// The next free range: its start and its last.
-#[derive(Clone, Copy)]
-pub enum Gap {
-    Nothing,
-    At(u64, u64),
-}
-
 // Whether a range holds x.
 fn covers(start: u64, last: u64, x: u64) -> bool
     ensures { result ≡ holds (range start last) x }
 {
-    if x < start {
-        return false;
-    }
-    x <= last
+    start <= x && x <= last
 }
 
 // The last of the first range that holds x.
-pub fn covering<'a>(starts: &'a [u64], lasts: &'a [u64], n: usize, x: u64) -> Cover
+pub fn covering<'a>(starts: &'a [u64], lasts: &'a [u64], n: usize, x: u64) -> Option<u64>
     requires { (n ≤ length starts.now) × (n ≤ length lasts.now) }
     ensures { result ≡ cover_of (listed n starts.now lasts.now) x }
 {
-    let mut i: usize = 0;
-    while i < n {
-        let last = lasts[i];
-        if covers(starts[i], last, x) {
-            return Cover::Upto(last);
+    for i in 0..n {
+        if covers(starts[i], lasts[i], x) {
+            return Some(lasts[i]);
         }
-        i += 1;
     }
-    Cover::Clear
+    None
 }
 
 // Where a run of free addresses from x on ends because of one range: just below its start, where it starts above x.
 fn end_before(start: u64, last: u64, x: u64) -> u64
     ensures { result ≡ end_for x (range start last) }
 {
-    if last < start {
-        return U64MAX;
+    if start <= last && x < start {
+        start - 1
+    } else {
+        U64MAX
     }
-    if start <= x {
-        return U64MAX;
-    }
-    start - 1
 }
 
 // The last address of the run of free ones that begins at x, where no range holds x.
@@ -67,11 +45,9 @@ pub fn run_end<'a>(starts: &'a [u64], lasts: &'a [u64], n: usize, x: u64) -> u64
     requires { (n ≤ length starts.now) × (n ≤ length lasts.now) }
     ensures { result ≡ run_end (listed n starts.now lasts.now) x }
 {
-    let mut lowest: u64 = U64MAX;
-    let mut i: usize = 0;
-    while i < n {
-        lowest = ranges::lower(lowest, end_before(starts[i], lasts[i], x));
-        i += 1;
+    let mut lowest = U64MAX;
+    for i in 0..n {
+        lowest = lowest.min(end_before(starts[i], lasts[i], x));
     }
     lowest
 }

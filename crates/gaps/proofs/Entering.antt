@@ -72,5 +72,5 @@ module _ (ls : List Mapping) (o : ordered before ls ≡ true) (s x p : ℕ) (e :
       onwards = λ j i m. beyond j m i;
     }
 
-  pub enter_first : p ≡ 0 → Stands ls s x 0
-  enter_first z = record { behind = λ j i m q. absurd (omega (arith, i)); onwards = λ j i m. beyond j m (omega (arith, z)) }
+  pub enter_first : p ≡ 0 → Stands ls s x p
+  enter_first z = record { behind = λ j i m q. absurd (omega (arith, i, z)); onwards = λ j i m. beyond j m (omega (arith, z)) }

@@ -1,4 +1,5 @@
 -- What one step reads: the words of a record, and whether the mapping at a place is met.
+use Rattle.std.specs.Prelude.{Option, None, Some}
 use Prim.Native.Nat.{ℕ, ◌+◌, ◌-◌, ◌≤◌, ◌<◌}
 use mathlib.Core.Path.{◌≡◌, refl, sym, ap, subst, ◌∙◌}
 use mathlib.Core.Bool.{Bool, true, false, ◌&&◌}
@@ -6,27 +7,21 @@ use mathlib.Core.List.{List, []}
 use native.Mathlib.Omega.{arith}
 use lib.Dec.{leb, ltb, eqb}
 use lib.ListN.{length, get_or}
-use borrow.Author.Tests.{leb-true, le-leb, lt-leb, lt-ltb, le-ltb, ltb-true, eqb-true, eq-eqb, ne_eqb}
-use Rattle.lists.specs.Tests.{contrary, and_left, and_right, and_both, and_not_left, and_not_right}
+use borrow.Author.Tests.{leb-true, le-leb, lt-leb, lt-ltb, le-ltb, ltb-true, eq-eqb, ne_eqb}
+use Rattle.lists.specs.Tests.{and_left, and_right, and_both, and_not_left, and_not_right}
 use Rattle.ranges.specs.declared.Range.{Range}
 use Rattle.ranges.specs.Ranges.{U64MAX, share, shared_start, shared_last, span, last_of, span-some}
-use Rattle.alignment.specs.declared.Spot.{Spot}
-use Rattle.alignment.specs.declared.Spot.TheVariants.{Nowhere, At}
 use Rattle.alignment.specs.Multiples.{lowest_multiple}
 use Rattle.placement.specs.Jumps.{past_of, Swept}
 use Rattle.placement.specs.Sweeping.{past-here, past_end, past-on}
 use Rattle.rules_table.specs.declared.Mapping.{Mapping}
 use Rattle.rules_table.specs.Records.{zero_mapping, of_space, extent}
-use Rattle.rules_table.specs.Words.{low}
 use Rattle.layout_mappings.specs.Words.{record_at, records-at}
 use Rattle.gaps.specs.Steps.{begins_by, meets, Stepped, StepBy}
 
 -- ---- the words of a record
 
 module _ (ws : List (List ℕ)) (i : ℕ) where
-  pub space-is : low (get_or (get_or ws i []) 0 0) ≡ (record_at ws i).space
-  space-is = ap (λ (m : Mapping). m.space) (sym (records-at ws i))
-
   pub extent-is : (r : Range) (a n : ℕ) → r ≡ span a n → a ≡ get_or (get_or ws i []) 2 0 → n ≡ get_or (get_or ws i []) 3 0 → r ≡ extent (record_at ws i)
   unfolding extent
   extent-is r a n e f g = e ∙ rw (f, g) (ap (λ (m : Mapping). span m.address m.length) (sym (records-at ws i)))
@@ -39,13 +34,11 @@ module _ (ws : List (List ℕ)) (i : ℕ) where
     unfolding begins_by of_space
     begins-elsewhere h = sym (and_not_left (eqb (record_at ws i).space s) (leb (record_at ws i).address x) (ne_eqb (record_at ws i).space s (λ q. h (e ∙ q))))
 
-    pub begins-later : x < get_or (get_or ws i []) 2 0 → false ≡ begins_by s x (record_at ws i)
-    unfolding begins_by
-    begins-later h = sym (and_not_right (of_space s (record_at ws i)) (leb (record_at ws i).address x) (lt-leb (record_at ws i).address x (omega (arith, h, address_is))))
-
-    pub begins-here : t ≡ s → get_or (get_or ws i []) 2 0 ≤ x → true ≡ begins_by s x (record_at ws i)
+    -- b tells whether it begins by x
+    pub begins-here : t ≡ s → (b : Bool) → (b ≡ true → get_or (get_or ws i []) 2 0 ≤ x) → (b ≡ false → x < get_or (get_or ws i []) 2 0) → b ≡ begins_by s x (record_at ws i)
     unfolding begins_by of_space
-    begins-here h k = sym (and_both (eqb (record_at ws i).space s) (leb (record_at ws i).address x) (eq-eqb (record_at ws i).space s (sym e ∙ h)) (le-leb (record_at ws i).address x (omega (arith, k, address_is))))
+    begins-here h true y n = sym (and_both (eqb (record_at ws i).space s) (leb (record_at ws i).address x) (eq-eqb (record_at ws i).space s (sym e ∙ h)) (le-leb (record_at ws i).address x (omega (arith, y refl, address_is))))
+    begins-here h false y n = sym (and_not_right (of_space s (record_at ws i)) (leb (record_at ws i).address x) (lt-leb (record_at ws i).address x (omega (arith, n refl, address_is))))
 
 -- ---- the mapping at a place
 
@@ -78,7 +71,7 @@ module _ (a n x : ℕ) (q : Range) where
   unfolding share shared_start shared_last span
   ends-before h = lt-leb (shared_start (span x n) q) (shared_last (span x n) q) (omega arith)
 
-  pub past-behind : q.last < x → At x ≡ past_of a n x q
+  pub past-behind : q.last < x → Some x ≡ past_of a n x q
   past-behind h = past-here a n x q (span x n) refl (share (span x n) q) refl (rw (ends-before h))
 
   module _ (some : q.start ≤ q.last) (begins : q.start ≤ last_of x n) (u : x ≤ U64MAX) (h : x ≤ q.last) where
@@ -86,10 +79,10 @@ module _ (a n x : ℕ) (q : Range) where
     unfolding share shared_start shared_last span
     reaches = le-leb (shared_start (span x n) q) (shared_last (span x n) q) (omega (arith, span-some x n u))
 
-    pub past-last : q.last ≡ U64MAX → Nowhere ≡ past_of a n x q
+    pub past-last : q.last ≡ U64MAX → None ≡ past_of a n x q
     past-last = past_end a n x q (span x n) refl (share (span x n) q) refl (rw reaches)
 
-    pub past-touched : (s : Spot) → s ≡ lowest_multiple a (q.last + 1) → s ≡ past_of a n x q
+    pub past-touched : (s : Option ℕ) → s ≡ lowest_multiple a (q.last + 1) → s ≡ past_of a n x q
     past-touched s = past-on a n x q (span x n) refl (share (span x n) q) refl s (rw reaches)
 
 -- the range of a mapping holds its first address
@@ -111,30 +104,8 @@ module _ (a size s : ℕ) (ls : List Mapping) (rs : List Range) (x k last : ℕ)
   by : (c : Bool) → b ≡ c → c ≡ meets ls k s (last_of x size)
   by c t = sym t ∙ f ∙ ap (meets ls k s) e
 
-  pub step-met : b ≡ true → (q : Range) (y : Spot) (m : Mapping) → m ≡ get_or ls k zero_mapping → q ≡ extent m → y ≡ past_of a size x q → Stepped a size s ls rs x k y (k + 1) 1
+  pub step-met : b ≡ true → (q : Range) (y : Option ℕ) (m : Mapping) → m ≡ get_or ls k zero_mapping → q ≡ extent m → y ≡ past_of a size x q → Stepped a size s ls rs x k y (k + 1) 1
   step-met t q y m g h i = subst (λ (c : Bool). StepBy c a size ls rs x k y (k + 1) 1) (by true t) (i ∙ ap (past_of a size x) (h ∙ ap extent g), refl, refl)
 
-  pub step-swept : b ≡ false → (y : Spot) (j : ℕ) → Swept a size rs x y j → Stepped a size s ls rs x k y k j
+  pub step-swept : b ≡ false → (y : Option ℕ) (j : ℕ) → Swept a size rs x y j → Stepped a size s ls rs x k y k j
   step-swept t y j g = subst (λ (c : Bool). StepBy c a size ls rs x k y k j) (by false t) (g, refl)
-
--- ---- whether something moved
-
-module _ (y x p k : ℕ) where
-  pub still-moved : (y ≡ x → ⊥) → false ≡ (eqb y x && eqb p k)
-  still-moved h = sym (and_not_left (eqb y x) (eqb p k) (ne_eqb y x h))
-
-  pub still-on : (p ≡ k → ⊥) → false ≡ (eqb y x && eqb p k)
-  still-on h = sym (and_not_right (eqb y x) (eqb p k) (ne_eqb p k h))
-
-  pub still-here : y ≡ x → p ≡ k → true ≡ (eqb y x && eqb p k)
-  still-here h i = sym (and_both (eqb y x) (eqb p k) (eq-eqb y x h) (eq-eqb p k i))
-
-  module _ (b : Bool) (e : b ≡ (eqb y x && eqb p k)) where
-    pub still-address : b ≡ true → y ≡ x
-    still-address t = eqb-true y x (and_left (eqb y x) (eqb p k) (sym e ∙ t))
-
-    pub still-place : b ≡ true → p ≡ k
-    still-place t = eqb-true p k (and_right (eqb y x) (eqb p k) (sym e ∙ t))
-
-    pub moved : b ≡ false → y ≡ x → p ≡ k → ⊥
-    moved t q r = contrary b (e ∙ sym (still-here q r)) t

@@ -1,4 +1,5 @@
 -- The walk: no candidate lies below the address reached, and each mapping and each reserved range is left behind once.
+use Rattle.std.specs.Prelude.{Option, None, Some}
 use Prim.Native.Nat.{ℕ, zero, suc, ◌+◌, ◌-◌, ◌≤◌, ◌<◌, max}
 use mathlib.Core.Path.{◌≡◌, refl, sym, ap, subst, ◌∙◌}
 use mathlib.Core.Bool.{Bool, true, false, not, ◌||◌}
@@ -14,9 +15,7 @@ use Rattle.lists.specs.Sums.{count_of, count_of-length}
 use Rattle.lists.specs.Counting.{count_of-cons, count_of-none}
 use Rattle.ranges.specs.declared.Range.{Range}
 use Rattle.ranges.specs.Ranges.{U64MAX, share, shared_start, shared_last, inside, passes, passes-false, last_of, span, span-some}
-use Rattle.alignment.specs.declared.Spot.{Spot}
-use Rattle.alignment.specs.declared.Spot.TheVariants.{Nowhere, At}
-use Rattle.alignment.specs.Multiples.{multiple, Lowest, lowest-unique, MultipleFrom, lowest_multiple, lowest-is, spot_of}
+use Rattle.alignment.specs.Multiples.{multiple, Lowest, lowest-unique, MultipleFrom, lowest_multiple, lowest-is}
 use Rattle.placement.specs.Candidates.{Candidate, place_of}
 use Rattle.placement.specs.Lowest.{ends-before, window_starts, window_before, place-lowest}
 use Rattle.placement.specs.Jumps.{past_of, jumps_to, ending, Free, Onward, Swept, room_at}
@@ -166,12 +165,12 @@ module _ (a size low s : ℕ) (os : List Object) (w : Range) (n : ℕ) (ix : Lis
   ls = view (take n ix) ms
 
   -- as the contract has it
-  abbrev pub Answer : Spot → ℕ → Type 0
-  Answer spot jumps = (0 < s → spot ≡ spot_of (place_of a size low (blocked_in os ms s) (w ∷ []))) × (jumps ≤ length (blocked_in os ms s))
+  abbrev pub Answer : Option ℕ → ℕ → Type 0
+  Answer spot jumps = (0 < s → spot ≡ place_of a size low (blocked_in os ms s) (w ∷ [])) × (jumps ≤ length (blocked_in os ms s))
 
-  answer : (spot : Spot) (jumps : ℕ) → Lowest (Candidate a size low (blocked_in os ls s) (w ∷ [])) spot → jumps ≤ length (reserved_of os s) + count_of (of_space s) ls → Answer spot jumps
+  answer : (spot : Option ℕ) (jumps : ℕ) → Lowest (Candidate a size low (blocked_in os ls s) (w ∷ [])) spot → jumps ≤ length (reserved_of os s) + count_of (of_space s) ls → Answer spot jumps
   answer spot jumps l h = (
-    λ p. lowest-unique _ spot _ l (place-lowest a size low (blocked_in os ls s) (w ∷ [])) ∙ ap spot_of (sym (gap_is a size low (w ∷ []) os s p (take n ix) ms g.lists)),
+    λ p. lowest-unique _ spot _ l (place-lowest a size low (blocked_in os ls s) (w ∷ [])) ∙ sym (gap_is a size low (w ∷ []) os s p (take n ix) ms g.lists),
     omega (arith, h, blocked_length os ms s, seen_most (take n ix) ms g.lists s),
   )
 
@@ -198,7 +197,7 @@ module _ (a size low s : ℕ) (os : List Object) (w : Range) (n : ℕ) (ix : Lis
 
   -- ---- the start: the first multiple from low and the window's start on
 
-  module _ (from : ℕ) (spot : Spot) (b : from < 0x1_0000_0000_0000_0000) (f : from ≡ max low w.start) (e : spot ≡ lowest_multiple a from) where
+  module _ (from : ℕ) (spot : Option ℕ) (b : from < 0x1_0000_0000_0000_0000) (f : from ≡ max low w.start) (e : spot ≡ lowest_multiple a from) where
     candidate_multiple : (z : ℕ) → Candidate a size low (blocked_in os ls s) (w ∷ []) z → MultipleFrom a from z
     candidate_multiple z c = record {
       exact = c.exact;
@@ -206,15 +205,15 @@ module _ (a size low s : ℕ) (os : List Object) (w : Range) (n : ℕ) (ix : Lis
       below = omega (arith, passes-false z size c.ends);
     }
 
-    first : (r : Spot) → spot ≡ r → Lowest (MultipleFrom a from) r
+    first : (r : Option ℕ) → spot ≡ r → Lowest (MultipleFrom a from) r
     first r q = subst (Lowest (MultipleFrom a from)) (sym e ∙ q) (lowest-is a from b)
 
-    pub walk_none : spot ≡ Nowhere → Answer Nowhere 0
-    walk_none q = answer Nowhere 0 (λ z c. first Nowhere q z (candidate_multiple z c)) (omega arith)
+    pub walk_none : spot ≡ None → Answer None 0
+    walk_none q = answer None 0 (λ z c. first None q z (candidate_multiple z c)) (omega arith)
 
-    pub walk_start : (x k : ℕ) → spot ≡ At x → Stands ls s x k → Walk a size low s os ls w x k 0
+    pub walk_start : (x k : ℕ) → spot ≡ Some x → Stands ls s x k → Walk a size low s os ls w x k 0
     walk_start x k q h =
-        let l = first (At x) q in
+        let l = first (Some x) q in
         record {
           exact = l.0.exact;
           from = omega (arith, l.0.from);
@@ -227,9 +226,9 @@ module _ (a size low s : ℕ) (os : List Object) (w : Range) (n : ℕ) (ix : Lis
 
   module _ (x k jumps : ℕ) (v : Walk a size low s os ls w x k jumps) where
     -- no room at x, and so none above it
-    pub walk_full : (b : Bool) → b ≡ room_at size x w → not b ≡ true → Answer Nowhere jumps
+    pub walk_full : (b : Bool) → b ≡ room_at size x w → not b ≡ true → Answer None jumps
     walk_full b e f =
-        answer Nowhere jumps
+        answer None jumps
         (λ z c.
         let h = v.least z c in
         contrary (room_at size x w) (room_of size x w (ends-before size x z h c.ends) (window_before size z w (candidate_window z c) x h v.starts)) (sym e ∙ not-true b f))
@@ -270,9 +269,9 @@ module _ (a size low s : ℕ) (os : List Object) (w : Range) (n : ℕ) (ix : Lis
       met-few : jumps + 1 + (ending x (reserved_of os s) + count_of (of_space s) (drop (k + 1) ls)) ≤ length (reserved_of os s) + count_of (of_space s) ls
       met-few = omega (arith, v.few, met-count)
 
-      module _ (y : ℕ) (p : At y ≡ past_of a size x (extent met)) where
-        met-swept : Swept a size (extent met ∷ []) x (At y) (jumps_to x y)
-        met-swept = swept-one a size x (extent met) (At y) v.below p y refl
+      module _ (y : ℕ) (p : Some y ≡ past_of a size x (extent met)) where
+        met-swept : Swept a size (extent met ∷ []) x (Some y) (jumps_to x y)
+        met-swept = swept-one a size x (extent met) (Some y) v.below p y refl
 
         -- it is left behind
         met-end : end_of met < y
@@ -298,45 +297,45 @@ module _ (a size low s : ℕ) (os : List Object) (w : Range) (n : ℕ) (ix : Lis
         met-on : Walk a size low s os ls w y (k + 1) (jumps + 1)
         met-on = walk_past (extent met ∷ []) met-free y (jumps_to x y) (k + 1) (jumps + 1) met-swept.0 met-stands (omega (arith, met-few, ending-later x y (reserved_of os s) met-swept.0.from))
 
-      met-never : Nowhere ≡ past_of a size x (extent met) → (z : ℕ) → Candidate a size low (blocked_in os ls s) (w ∷ []) z → ⊥
-      met-never p z c = (never-one a size x (extent met) Nowhere p refl).none z (met-free z c) (v.least z c)
+      met-never : None ≡ past_of a size x (extent met) → (z : ℕ) → Candidate a size low (blocked_in os ls s) (w ∷ []) z → ⊥
+      met-never p z c = (never-one a size x (extent met) None p refl).none z (met-free z c) (v.least z c)
 
     -- ---- a step, as the code makes it
 
-    module _ (spot : Spot) (place j : ℕ) (p : Stepped a size s ls (reserved_of os s) x k spot place j) where
+    module _ (spot : Option ℕ) (place j : ℕ) (p : Stepped a size s ls (reserved_of os s) x k spot place j) where
       pub walk_sum : jumps + j ≤ length (reserved_of os s) + count_of (of_space s) ls
       walk_sum = go (meets ls k s (last_of x size)) refl p
         where
-          swept : (r : Spot) → Swept a size (reserved_of os s) x r j → jumps + j ≤ length (reserved_of os s) + count_of (of_space s) ls
-          swept Nowhere q = omega (arith, q.fewer, v.few)
-          swept (At y) q = omega (arith, q.0.fewer, v.few)
+          swept : (r : Option ℕ) → Swept a size (reserved_of os s) x r j → jumps + j ≤ length (reserved_of os s) + count_of (of_space s) ls
+          swept None q = omega (arith, q.fewer, v.few)
+          swept (Some y) q = omega (arith, q.0.fewer, v.few)
 
           go : (b : Bool) → meets ls k s (last_of x size) ≡ b → StepBy b a size ls (reserved_of os s) x k spot place j → jumps + j ≤ length (reserved_of os s) + count_of (of_space s) ls
           go true m q = omega (arith, q.2, met-few m)
           go false m q = swept spot q.0
 
-      pub walk_never : spot ≡ Nowhere → Answer Nowhere (jumps + j)
-      walk_never e = answer Nowhere (jumps + j) (go (meets ls k s (last_of x size)) refl p) walk_sum
+      pub walk_never : spot ≡ None → Answer None (jumps + j)
+      walk_never e = answer None (jumps + j) (go (meets ls k s (last_of x size)) refl p) walk_sum
         where
           go : (b : Bool) → meets ls k s (last_of x size) ≡ b → StepBy b a size ls (reserved_of os s) x k spot place j → (z : ℕ) → Candidate a size low (blocked_in os ls s) (w ∷ []) z → ⊥
           go true m q z c = met-never m (sym e ∙ q.0) z c
-          go false m q z c = let r = subst (λ (t : Spot). Swept a size (reserved_of os s) x t j) e q.0 in r.none z (candidate_reserved z c) (v.least z c)
+          go false m q z c = let r = subst (λ (t : Option ℕ). Swept a size (reserved_of os s) x t j) e q.0 in r.none z (candidate_reserved z c) (v.least z c)
 
-      module _ (y : ℕ) (e : spot ≡ At y) where
+      module _ (y : ℕ) (e : spot ≡ Some y) where
         pub walk_on : Walk a size low s os ls w y place (jumps + j)
         walk_on = go (meets ls k s (last_of x size)) refl p
           where
             go : (b : Bool) → meets ls k s (last_of x size) ≡ b → StepBy b a size ls (reserved_of os s) x k spot place j → Walk a size low s os ls w y place (jumps + j)
             go true m q = rw (q.1, q.2) (met-on m y (sym e ∙ q.0))
             go false m q =
-                let r = subst (λ (t : Spot). Swept a size (reserved_of os s) x t j) e q.0 in
+                let r = subst (λ (t : Option ℕ). Swept a size (reserved_of os s) x t j) e q.0 in
                 rw q.1 (walk_past (reserved_of os s) candidate_reserved y j k (jumps + j) r.0
                 (record { behind = λ i h l d. omega (arith, v.stands.behind i h l d, r.0.from); onwards = v.stands.onwards })
                 (omega (arith, v.few, r.0.fewer)))
 
         -- nothing moved, and there is room
-        pub walk_found : (b : Bool) → b ≡ room_at size x w → not b ≡ false → y ≡ x → place ≡ k → Answer (At x) (jumps + j)
-        walk_found b f h i l = answer (At x) (jumps + j) (go (meets ls k s (last_of x size)) refl p, v.least) walk_sum
+        pub walk_found : (b : Bool) → b ≡ room_at size x w → not b ≡ false → y ≡ x → place ≡ k → Answer (Some x) (jumps + j)
+        walk_found b f h i l = answer (Some x) (jumps + j) (go (meets ls k s (last_of x size)) refl p, v.least) walk_sum
           where
             room : room_at size x w ≡ true
             room = sym f ∙ not-false b h
@@ -344,7 +343,7 @@ module _ (a size low s : ℕ) (os : List Object) (w : Range) (n : ℕ) (ix : Lis
             go : (b : Bool) → meets ls k s (last_of x size) ≡ b → StepBy b a size ls (reserved_of os s) x k spot place j → Candidate a size low (blocked_in os ls s) (w ∷ []) x
             go true m q = absurd (omega (arith, q.1, l))
             go false m q =
-                let r = subst (λ (t : Spot). Swept a size (reserved_of os s) x t j) e q.0 in
+                let r = subst (λ (t : Option ℕ). Swept a size (reserved_of os s) x t j) e q.0 in
                 record {
                   exact = v.exact;
                   from = v.from;
@@ -363,6 +362,6 @@ module _ (a size low s : ℕ) (os : List Object) (w : Range) (n : ℕ) (ix : Lis
             go : (b : Bool) → meets ls k s (last_of x size) ≡ b → StepBy b a size ls (reserved_of os s) x k spot place j → (n - place) + (0x1_0000_0000_0000_0000 - y) < (n - k) + (0x1_0000_0000_0000_0000 - x)
             go true m q = omega (arith, q.1, met-place m, top, (met-swept m y (sym e ∙ q.0)).0.from)
             go false m q =
-                let r = subst (λ (t : Spot). Swept a size (reserved_of os s) x t j) e q.0 in
+                let r = subst (λ (t : Option ℕ). Swept a size (reserved_of os s) x t j) e q.0 in
                 let d : y ≡ x → ⊥ = λ i. ne i q.1 in
                 omega (arith, q.1, r.0.from, r.0.below, d)

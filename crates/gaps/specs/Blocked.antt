@@ -1,5 +1,5 @@
 -- What blocks a place of a space, and that it is the same seen through the index: the order in which the mappings are listed plays no part, nor do records that are not listed.
-use Rattle.std.specs.Prelude.{ℕ, ◌+◌, ◌<◌, ◌≡◌, refl, Bool, true, ◌||◌, List, [], ◌∷◌, map, length, take}
+use Rattle.std.specs.Prelude.{ℕ, ◌+◌, ◌<◌, ◌≡◌, refl, Bool, true, ◌||◌, List, [], ◌∷◌, map, length, take, Option, None, Some}
 use Rattle.std.proofs.Common.{sym, ap, ◌∙◌, arith, length-append}
 use Rattle.std.proofs.Math.Bool.{false}
 use Rattle.std.proofs.lemmas.List.{length-map}
@@ -11,9 +11,7 @@ use Rattle.lists.specs.Update.{any-map}
 use Rattle.lists.specs.Each.{Each}
 use Rattle.ranges.specs.declared.Range.{Range}
 use Rattle.ranges.specs.Ranges.{share, inside, span}
-use Rattle.alignment.specs.declared.Spot.{Spot}
-use Rattle.alignment.specs.declared.Spot.TheVariants.{Nowhere, At}
-use Rattle.alignment.specs.Multiples.{Lowest, lowest-one, spot_of}
+use Rattle.alignment.specs.Multiples.{Lowest, lowest-unique}
 use Rattle.rangelists.specs.Listed.{allowed}
 use Rattle.placement.specs.Candidates.{permits, Candidate, place_of}
 use Rattle.placement.specs.Lowest.{place-lowest}
@@ -63,9 +61,9 @@ module _ (w r : Range) where
 
 -- ---- the place depends on what is touched, and on nothing else
 
-pub lowest-same : (P Q : ℕ → Type 0) → ((x : ℕ) → P x → Q x) → ((x : ℕ) → Q x → P x) → (r : Spot) → Lowest P r → Lowest Q r
-lowest-same P Q f g Nowhere h = λ y c. h y (g y c)
-lowest-same P Q f g (At x) h = (f x h.0, λ y c. h.1 y (g y c))
+pub lowest-same : (P Q : ℕ → Type 0) → ((x : ℕ) → P x → Q x) → ((x : ℕ) → Q x → P x) → (r : Option ℕ) → Lowest P r → Lowest Q r
+lowest-same P Q f g None h = λ y c. h y (g y c)
+lowest-same P Q f g (Some x) h = (f x h.0, λ y c. h.1 y (g y c))
 
 module _ (a n low : ℕ) (allow : List Range) where
   moved : (bs cs : List Range) → ((r : Range) → any (share r) bs ≡ any (share r) cs) → (x : ℕ) → Candidate a n low bs allow x → Candidate a n low cs allow x
@@ -73,8 +71,8 @@ module _ (a n low : ℕ) (allow : List Range) where
 
   place_same : (bs cs : List Range) → ((r : Range) → any (share r) bs ≡ any (share r) cs) → place_of a n low bs allow ≡ place_of a n low cs allow
   place_same bs cs same =
-      lowest-one (Candidate a n low cs allow) (place_of a n low bs allow) (place_of a n low cs allow)
-      (lowest-same (Candidate a n low bs allow) (Candidate a n low cs allow) (moved bs cs same) (moved cs bs (λ r. sym (same r))) (spot_of (place_of a n low bs allow)) (place-lowest a n low bs allow))
+      lowest-unique (Candidate a n low cs allow) (place_of a n low bs allow) (place_of a n low cs allow)
+      (lowest-same (Candidate a n low bs allow) (Candidate a n low cs allow) (moved bs cs same) (moved cs bs (λ r. sym (same r))) (place_of a n low bs allow) (place-lowest a n low bs allow))
       (place-lowest a n low cs allow)
 
   module _ (os : List Object) (s : ℕ) (h : 0 < s) where

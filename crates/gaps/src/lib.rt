@@ -1,9 +1,8 @@
 // The gaps of a space, by one walk over its mappings in the order of the index. The reserved ranges are asked where no mapping is in the way.
 #![tactic(auto)]
 
-ghost use Rattle.std.specs.Prelude.{◌≡◌, ◌&&◌, [], ◌∷◌, ◌+◌, ◌-◌, ◌≤◌, ◌<◌, eqb, length, get_or, take};
+ghost use Rattle.std.specs.Prelude.{◌≡◌, [], ◌∷◌, ◌+◌, ◌-◌, ◌≤◌, ◌<◌, length, get_or, take};
 ghost use Rattle.ranges.specs.Ranges.{U64MAX, last_of};
-ghost use Rattle.alignment.specs.Multiples.{spot_of};
 ghost use Rattle.placement.specs.Candidates.{place_of};
 ghost use Rattle.placement.specs.Jumps.{past_of};
 ghost use Rattle.rules_table.specs.Records.{zero_mapping, extent};
@@ -15,14 +14,13 @@ ghost use Rattle.layout_mappings.specs.Words.{records_of, record_at};
 ghost use Rattle.index_search.specs.Indexed.{Indexed};
 ghost use Rattle.gaps.specs.Steps.{begins_by, meets, Stands, Stepped};
 
-use alignment::Spot;
 use placement::{Search, Want};
 use ranges::Range;
 
 // Where one step of the walk leads: an address, a place in the index, and how many ranges it left behind.
 #[derive(Clone, Copy)]
 struct Step {
-    spot: Spot,
+    spot: Option<u64>,
     place: usize,
     jumps: usize,
 }
@@ -56,13 +54,7 @@ fn begins_by(ws: &[[u64; 5]], i: usize, s: u32, x: u64) -> bool
     requires { i < length ws.now }
     ensures { result ≡ begins_by s x (record_at ws.now i) }
 {
-    if space_at(ws, i) != s {
-        return false;
-    }
-    if x < ws[i][2] {
-        return false;
-    }
-    true
+    space_at(ws, i) == s && ws[i][2] <= x
 }
 
 // Whether there is such a mapping at place k.
@@ -70,10 +62,7 @@ fn is_met<'a>(ws: &'a [[u64; 5]], ix: &'a [u64], n: usize, k: usize, s: u32, x: 
     requires { Indexed n ix.now (records_of ws.now) }
     ensures { result ≡ meets (view (take n ix.now) (records_of ws.now)) k s x }
 {
-    if n <= k {
-        return false;
-    }
-    begins_by(ws, slot_of(ws, ix, n, k), s, x)
+    k < n && begins_by(ws, slot_of(ws, ix, n, k), s, x)
 }
 
 // ---- the walk
@@ -84,25 +73,22 @@ fn entry_of<'a>(ws: &'a [[u64; 5]], ix: &'a [u64], n: usize, s: u32, x: u64) -> 
     ensures { Stands (view (take n ix.now) (records_of ws.now)) s x result }
 {
     let p = index_search::count_entered(ws, ix, n, true, s, x);
-    if p == 0 {
-        return 0;
+    if 0 < p && space_at(ws, slot_of(ws, ix, n, p - 1)) == s {
+        return p - 1;
     }
-    if space_at(ws, slot_of(ws, ix, n, p - 1)) != s {
-        return p;
-    }
-    p - 1
+    p
 }
 
 // The next place from x on at which a range that begins by the last of the bytes is not touched. Whether it is touched, its last address alone tells.
-fn past_met(w: Want, x: u64, q: Range) -> Spot
+fn past_met(w: Want, x: u64, q: Range) -> Option<u64>
     requires { (q.start ≤ q.last) × (q.start ≤ last_of x w.length) }
     ensures { result ≡ past_of w.alignment w.length x q }
 {
     if q.last < x {
-        return Spot::At(x);
+        return Some(x);
     }
     if q.last == ranges::U64MAX {
-        return Spot::Nowhere;
+        return None;
     }
     alignment::lowest_multiple(w.alignment, q.last + 1)
 }
@@ -132,25 +118,11 @@ fn go_on<'a>(
         };
     }
     let f = reserved_ranges::sweep(h, s, w, x);
-    let spot = f.spot;
     Step {
-        spot,
+        spot: f.spot,
         place: k,
         jumps: f.jumps,
     }
-}
-
-// Whether a step from address x and place k led nowhere else.
-fn is_still(x: u64, y: u64, k: usize, place: usize) -> bool
-    ensures { result ≡ (eqb y x && eqb place k) }
-{
-    if y != x {
-        return false;
-    }
-    if place != k {
-        return false;
-    }
-    true
 }
 
 // The lowest place in one window. Each mapping of the space and each reserved range is left behind at most once.
@@ -164,14 +136,14 @@ pub fn gap_in<'a>(
     window: Range,
 ) -> Search
     requires { Indexed n ix.now (records_of ws.now) }
-    ensures { (0 < s → result.spot ≡ spot_of (place_of w.alignment w.length w.low
+    ensures { (0 < s → result.spot ≡ (place_of w.alignment w.length w.low
         (blocked_in (objects_in h.now) (records_of ws.now) s) (window ∷ [])))
         × (result.jumps ≤ length (blocked_in (objects_in h.now) (records_of ws.now) s)) }
 {
-    let first = alignment::lowest_multiple(w.alignment, ranges::higher(w.low, window.start));
-    let Spot::At(start) = first else {
+    let first = alignment::lowest_multiple(w.alignment, w.low.max(window.start));
+    let Some(start) = first else {
         return Search {
-            spot: Spot::Nowhere,
+            spot: None,
             jumps: 0,
         };
     };
@@ -180,28 +152,20 @@ pub fn gap_in<'a>(
     let mut jumps: usize = 0;
     loop {
         if !placement::has_room(w.length, x, window) {
-            return Search {
-                spot: Spot::Nowhere,
-                jumps,
-            };
+            return Search { spot: None, jumps };
         }
         let r = go_on(h, ws, ix, n, s, w, x, k);
         jumps += r.jumps;
-        let place = r.place;
-        let spot = r.spot;
-        let Spot::At(y) = spot else {
-            return Search {
-                spot: Spot::Nowhere,
-                jumps,
-            };
+        let Some(y) = r.spot else {
+            return Search { spot: None, jumps };
         };
-        if is_still(x, y, k, place) {
+        if y == x && r.place == k {
             return Search {
-                spot: Spot::At(x),
+                spot: Some(x),
                 jumps,
             };
         }
         x = y;
-        k = place;
+        k = r.place;
     }
 }

@@ -1,18 +1,16 @@
 -- What each return gives, in the words of the definitions of attach.
 use Prim.Native.Nat.{ℕ, ◌-◌, ◌<◌, max}
 use mathlib.Core.Path.{◌≡◌, sym, ap, ◌∙◌}
-use mathlib.Core.Bool.{Bool, false, not, ◌||◌}
+use mathlib.Core.Bool.{Bool, ◌||◌}
 use mathlib.Core.List.{List}
-use borrow.Author.Tests.{eq-eqb, ne_eqb}
 use Rattle.lists.specs.Search.{any}
 use Rattle.lists.specs.Checks.{first, first-stays, first_goes}
 use Rattle.ranges.specs.declared.Range.{Range}
-use Rattle.alignment.specs.Multiples.{fits}
 use Rattle.alignment.specs.Pages.{smallest_page}
 use Rattle.rangelists.specs.Listed.{allowed}
 use Rattle.rules_table.specs.declared.Object.{Object}
 use Rattle.rules_table.specs.declared.Mapping.{Mapping}
-use Rattle.rules_table.specs.Records.{object_at, of_space}
+use Rattle.rules_table.specs.Records.{object_at}
 use Rattle.rules_table.specs.Spaces.{alignment}
 use Rattle.rules_table.specs.Good.{lists_touch}
 use Rattle.rules_calls.specs.declared.Edit.{Edit}
@@ -22,15 +20,6 @@ use Rattle.edits.specs.Settled.{settle-refused, settle-taken}
 use Rattle.rules_calls.specs.Attach.{blocked_by, misfits, alignment_with, attached_object, attach_checks, attach_edit}
 use Rattle.check_reserved.specs.Clear.{strikes}
 use Rattle.host_attach.specs.Attached.{attach_kinds, attach_fits, attach_parts, kinds-refuse, kinds-space, struck_blocked}
-
-module _ (s : ℕ) (m : Mapping) where
-  pub misfit_other : (a : ℕ) → (m.space ≡ s → ⊥) → false ≡ misfits s a m
-  unfolding misfits of_space
-  misfit_other a h = rw (ne_eqb m.space s h)
-
-  pub misfit_here : (a : ℕ) (b : Bool) → m.space ≡ s → b ≡ fits a m.address m.length → not b ≡ misfits s a m
-  unfolding misfits of_space
-  misfit_here a b h e = rw (eq-eqb m.space s h) (ap (λ (x : Bool). not x) e)
 
 -- the checks of attach, by what is known of the space: h is its object and a its alignment
 module _ (os : List Object) (s a : ℕ) (h : Object) (eh : h ≡ object_at os s) (ea : a ≡ alignment os s) where

@@ -15,25 +15,21 @@ use rules_calls::{Change, Edit};
 use rules_table::{Attachment, Kind, Mapping, Object};
 
 // Whether a mapping of space s does not fit the alignment a.
+#[tactic(auto, unfolding(rules_calls::specs::Attach::misfits, rules_table::specs::Records::of_space))]
 fn misfit(m: Mapping, s: u32, a: u64) -> bool
     ensures { result ≡ misfits s a m }
 {
-    if m.space != s {
-        return false;
-    }
-    !alignment::is_fit(a, m.address, m.length)
+    m.space == s && !alignment::is_fit(a, m.address, m.length)
 }
 
 fn some_misfit(ws: &[[u64; 5]], s: u32, a: u64) -> bool
     ensures { result ≡ any (misfits s a) (records_of ws.now) }
 {
-    let mut i: usize = 0;
-    while i < ws.len() {
+    for i in 0..ws.len() {
         let m = layout_mappings::record(ws, i);
         if misfit(m, s, a) {
             return true;
         }
-        i += 1;
     }
     false
 }
@@ -42,11 +38,9 @@ fn some_misfit(ws: &[[u64; 5]], s: u32, a: u64) -> bool
 fn attach_kind_errno(o: Object, h: Object) -> u8
     ensures { result ≡ first (attach_kinds o h) 0 }
 {
-    let k = o.kind;
-    let home = h.kind;
-    let device = table::is_device(k);
-    let attached = table::is_attached(k);
-    let space = table::is_space(home);
+    let device = table::is_device(o.kind);
+    let attached = table::is_attached(o.kind);
+    let space = table::is_space(h.kind);
     checks::refuse_if(
         !device,
         2,
@@ -67,13 +61,10 @@ fn attach_fit_errno<'a>(
     requires { Indexed listed ix.now (records_of ws.now) }
     ensures { (os : List Object) → h ≡ object_at os s → a ≡ alignment os s → 0 < s → result ≡ first (attach_fits os (records_of ws.now) o s) 0 }
 {
-    let l = o.reserved;
-    let allow = h.allow;
-    let mapped = check_reserved::list_struck(l, ws, ix, listed, s);
-    let allowed = table::lists_touch(l, allow);
-    let blocked = checks::either(mapped, allowed);
+    let blocked = check_reserved::list_struck(o.reserved, ws, ix, listed, s)
+        || table::lists_touch(o.reserved, h.allow);
     let page = alignment::smallest_page(o.bitmap);
-    let higher = ranges::higher(page, a);
+    let higher = page.max(a);
     let misaligned = some_misfit(ws, s, higher);
     checks::refuse_if(blocked, 98, checks::refuse_if(misaligned, 98, 0))
 }
@@ -81,13 +72,9 @@ fn attach_fit_errno<'a>(
 fn attached_object(o: Object, s: u32) -> Object
     ensures { result ≡ attached_object o s }
 {
-    let reserved = o.reserved;
-    let allow = o.allow;
     Object {
         kind: Kind::Device(Attachment::Attached(s)),
-        bitmap: o.bitmap,
-        reserved,
-        allow,
+        ..o
     }
 }
 
@@ -113,6 +100,5 @@ pub fn decide_attach<'a>(
     if unfit != 0 {
         return edits::refusal(unfit);
     }
-    let n = attached_object(o, s);
-    edits::acceptance(0, Change::Put(edits::slot_of(d)), n)
+    edits::acceptance(0, Change::Put(edits::slot_of(d)), attached_object(o, s))
 }

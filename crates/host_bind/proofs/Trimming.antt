@@ -1,7 +1,7 @@
 -- A loop that fills a list place by place, and the places of a list with zero beyond its count.
 use Prim.Native.Nat.{ℕ, zero, suc, ◌+◌, ◌≤◌, ◌<◌}
 use mathlib.Core.Path.{◌≡◌, refl, sym, ap, ◌∙◌}
-use mathlib.Core.Bool.{Bool}
+use mathlib.Core.Bool.{Bool, true, false}
 use mathlib.Core.List.{List, [], ◌∷◌}
 use native.Mathlib.Nat.{le_of_suc-le-suc, not-suc-le-zero}
 use native.Mathlib.Omega.{arith}
@@ -11,6 +11,11 @@ use lib.Seq.{get_or-set_same, get_or-set_other, ext_get_or}
 use borrow.Author.Tests.{lt-ltb, le-ltb, eqb-true, eqb-false}
 use Rattle.lists.specs.Tests.{by-test, leb_iff, only_if}
 use Rattle.rules_calls.specs.Bind.{only_first}
+
+-- b tells whether a smallest page is above 4096
+pub page-above : (p : ℕ) (b : Bool) → (b ≡ true → 4096 < p) → (b ≡ false → p ≤ 4096) → b ≡ ltb 4096 p
+page-above p true y n = sym (lt-ltb 4096 p (y refl))
+page-above p false y n = sym (le-ltb 4096 p (n refl))
 
 pub kept_in : (i n x : ℕ) → i < n → x ≡ only_if (ltb i n) x
 kept_in i n x h = rw (lt-ltb i n h)
@@ -41,17 +46,14 @@ pub record Filled (n : ℕ) (xs ys : List ℕ) (i : ℕ) : Type 0 where
   pub place : i ≤ 4
   pub done : (k : ℕ) → k < i → get_or ys k 0 ≡ only_if (ltb k n) (get_or xs k 0)
 
-pub filled_start : (n : ℕ) (xs ys : List ℕ) → length xs ≡ 4 → length ys ≡ 4 → Filled n xs ys 0
-filled_start n xs ys h k = record { from = h; counted = k; place = omega arith; done = λ k l. absurd (not-suc-le-zero l) }
-
 module _ (n : ℕ) (xs ys : List ℕ) (i : ℕ) (v : Filled n xs ys i) where
-  pub filled_on : (r : ℕ) → i < 4 → r ≡ only_if (ltb i n) (get_or xs i 0) → Filled n xs (set ys i r) (i + 1)
-  filled_on r h e = record {
+  pub filled_on : (r m : ℕ) → i < 4 → r ≡ only_if (ltb i m) (get_or xs i 0) → m ≡ n → Filled n xs (set ys i r) (i + 1)
+  filled_on r m h e q = record {
     from = v.from;
     counted = length-set ys i r ∙ v.counted;
     place = omega arith;
     done = λ k l. by-test (eqb k i)
-        (λ t. let s : k ≡ i = eqb-true k i t in rw s (get_or-set_same ys i r 0 (omega (arith, v.counted)) ∙ e))
+        (λ t. let s : k ≡ i = eqb-true k i t in rw s (get_or-set_same ys i r 0 (omega (arith, v.counted)) ∙ e ∙ ap (λ (l : ℕ). only_if (ltb i l) (get_or xs i 0)) q))
         (λ t. let ne : k ≡ i → ⊥ = eqb-false k i t in get_or-set_other ys i k r 0 ne ∙ v.done k (omega (arith, ne)));
   }
 

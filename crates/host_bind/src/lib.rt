@@ -4,12 +4,11 @@
 ghost use Rattle.std.specs.Prelude.{List, ◌≡◌, ltb, length};
 ghost use Rattle.lists.specs.Tests.{only_if};
 ghost use Rattle.lists.specs.Checks.{first};
-ghost use Rattle.rangelists.specs.Listed.{found};
 ghost use Rattle.rules_table.specs.Charge.{free_record};
 ghost use Rattle.rules_table.specs.Fits.{bind_checks};
 ghost use Rattle.rules_calls.specs.Bind.{only_first, trimmed, new_device, bind_edit};
 
-use rangelists::{Allowed, Found, Reserved};
+use rangelists::{Allowed, Reserved};
 use rules_calls::Edit;
 use rules_table::{Attachment, Kind, Object};
 
@@ -17,13 +16,12 @@ fn bind_errno(bitmap: u64, l: Reserved) -> u8
     ensures { result ≡ first (bind_checks bitmap l) 0 }
 {
     let page = alignment::smallest_page(bitmap);
-    let wrong = checks::either(bitmap == 0, 4096 < page);
-    let count = l.count;
+    let wrong = bitmap == 0 || 4096 < page;
     let ordered = rangelists::reserved_valid(l);
     checks::refuse_if(
         wrong,
         22,
-        checks::refuse_if(4 < count, 22, checks::refuse_if(!ordered, 22, 0)),
+        checks::refuse_if(4 < l.count, 22, checks::refuse_if(!ordered, 22, 0)),
     )
 }
 
@@ -38,11 +36,8 @@ fn only_first(xs: [u64; 4], n: u32) -> [u64; 4]
     ensures { result ≡ only_first n xs }
 {
     let mut next = [0; 4];
-    let mut i: usize = 0;
-    while i < 4 {
-        let x = xs[i];
-        next[i] = kept(i, n, x);
-        i += 1;
+    for i in 0..4 {
+        next[i] = kept(i, n, xs[i]);
     }
     next
 }
@@ -50,43 +45,35 @@ fn only_first(xs: [u64; 4], n: u32) -> [u64; 4]
 fn trim(l: Reserved) -> Reserved
     ensures { result ≡ trimmed l }
 {
-    let count = l.count;
-    let given = l.starts;
-    let starts = only_first(given, count);
-    let ends = l.lasts;
-    let lasts = only_first(ends, count);
     Reserved {
-        count,
-        starts,
-        lasts,
+        count: l.count,
+        starts: only_first(l.starts, l.count),
+        lasts: only_first(l.lasts, l.count),
     }
 }
 
 fn new_device(bitmap: u64, l: Reserved) -> Object
     ensures { result ≡ new_device bitmap l }
 {
-    let reserved = trim(l);
-    let allow = Allowed {
-        count: 0,
-        starts: [0; 8],
-        lasts: [0; 8],
-    };
     Object {
         kind: Kind::Device(Attachment::Loose),
         bitmap,
-        reserved,
-        allow,
+        reserved: trim(l),
+        allow: Allowed {
+            count: 0,
+            starts: [0; 8],
+            lasts: [0; 8],
+        },
     }
 }
 
 // free is the lowest free record.
-pub fn decide_bind(free: Found, bitmap: u64, l: Reserved) -> Edit
-    ensures { (os : List Object) → length os ≡ 32 → free ≡ found (free_record os) → result ≡ bind_edit os bitmap l }
+pub fn decide_bind(free: Option<usize>, bitmap: u64, l: Reserved) -> Edit
+    ensures { (os : List Object) → length os ≡ 32 → free ≡ free_record os → result ≡ bind_edit os bitmap l }
 {
     let errno = bind_errno(bitmap, l);
     if errno != 0 {
         return edits::refusal(errno);
     }
-    let n = new_device(bitmap, l);
-    edits::add_new(free, n)
+    edits::add_new(free, new_device(bitmap, l))
 }

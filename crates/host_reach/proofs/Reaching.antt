@@ -1,9 +1,9 @@
 -- What each return of reach and next gives, in the words of the definitions.
+use Rattle.std.specs.Prelude.{None, Some, Option}
 use Prim.Native.Nat.{ℕ, zero, suc, ◌+◌, ◌-◌, ◌≤◌, ◌<◌}
 use mathlib.Core.Path.{◌≡◌, refl, sym, ap, ◌∙◌}
 use mathlib.Core.Bool.{Bool, true, false, not, ◌&&◌}
 use mathlib.Core.List.{List}
-use mathlib.Core.Option.{Option, none, some}
 use native.Mathlib.Omega.{arith}
 use borrow.Author.Tests.{not-true, not-false}
 use Rattle.lists.specs.Tests.{by-test, and_right}
@@ -18,9 +18,6 @@ use Rattle.rules_table.specs.declared.Mapping.{Mapping}
 use Rattle.rules_table.specs.Records.{object_at, space_at, is_space, is_attached, home_of, of_space, extent, used, can_write, can_read}
 use Rattle.table.specs.Checked.{record_ok}
 use Rattle.table.specs.Facts.{record_used, record_free}
-use Rattle.index_search.specs.declared.Source.{Source}
-use Rattle.index_search.specs.declared.Source.TheVariants.{Missing, Mapped}
-use Rattle.index_search.specs.Sourced.{sourced}
 use Rattle.rules_calls.specs.declared.Edit.{Edit}
 use Rattle.rules_calls.specs.Edits.{refuse, tells, settle}
 use Rattle.rules_calls.specs.Reach.{around, may_do, reach_checks, reach_of}
@@ -28,14 +25,6 @@ use Rattle.rules_calls.specs.Next.{next_number, next_checks, next_edit}
 use Rattle.host_reach.specs.Held.{reach_in, reach_split}
 
 -- ---- what was found
-
-from_in : (o : Option Mapping) (m : Mapping) → sourced o ≡ Mapped m → o ≡ some m
-from_in none m e = let z : ◌≡◌ {A = ℕ} 0 1 = cc in absurd (omega arith)
-from_in (some n) m e = cc
-
-from_nothing : (o : Option Mapping) → sourced o ≡ Missing → o ≡ none
-from_nothing none e = refl
-from_nothing (some n) e = let z : ◌≡◌ {A = ℕ} 0 1 = cc in absurd (omega arith)
 
 -- what is asked in order is asked of an attached device, whose home is an id
 pub home-pos : (k : Kind) (a n x s : ℕ) → x ≡ first (reach_checks k a n) 0 → x ≡ 0 → s ≡ home_of k → (is_attached k ≡ true → 0 < home_of k) → 0 < s
@@ -55,12 +44,12 @@ inside-place : (a n : ℕ) (m : Mapping) → a ≤ U64MAX → inside (span a n) 
 unfolding span extent last_of
 inside-place a n m h e = (inside-from (span a n) (extent m) e, omega (arith, inside-upto (span a n) (extent m) e, span-some a n h))
 
-module _ (os : List Object) (ms : List Mapping) (s a n : ℕ) (f : Source) (e : f ≡ sourced (around ms s (span a n))) where
+module _ (os : List Object) (ms : List Mapping) (s a n : ℕ) (f : Option Mapping) (e : f ≡ around ms s (span a n)) where
   -- the address lies in the mapping found, and what stands for it in memory is below 2^64
-  pub around-fits : (m : Mapping) → f ≡ Mapped m → a ≤ U64MAX → Each (λ m. record_ok os m ≡ true) ms → (m.address ≤ a) × (m.memory + (a - m.address) ≤ U64MAX)
+  pub around-fits : (m : Mapping) → f ≡ Some m → a ≤ U64MAX → Each (λ m. record_ok os m ≡ true) ms → (m.address ≤ a) × (m.memory + (a - m.address) ≤ U64MAX)
   unfolding around
   around-fits m g h good =
-      let found = from_in (around ms s (span a n)) m (sym e ∙ g) in
+      let found = sym e ∙ g in
       let test = find-some (λ m. of_space s m && inside (span a n) (extent m)) ms m found in
       let place = inside-place a n m h (and_right (of_space s m) (inside (span a n) (extent m)) test) in
       let last = memory-last os m (find-some_all (λ m. of_space s m && inside (span a n) (extent m)) (record_ok os) ms m found (all-Each (record_ok os) ms good)) in
@@ -74,10 +63,10 @@ may_write m w b e f = rw e f
 pub may_read : (m : Mapping) (w b : Bool) → w ≡ false → b ≡ can_read m → b ≡ may_do w m
 may_read m w b e f = rw e f
 
-pub in_refused : (a : ℕ) (write : Bool) (m : Mapping) (b : Bool) → b ≡ may_do write m → b ≡ false → refuse 1 ≡ reach_in a write (some m)
+pub in_refused : (a : ℕ) (write : Bool) (m : Mapping) (b : Bool) → b ≡ may_do write m → b ≡ false → refuse 1 ≡ reach_in a write (Some m)
 in_refused a write m b e f = rw (sym e ∙ f)
 
-pub in_taken : (a : ℕ) (write : Bool) (m : Mapping) (b : Bool) → b ≡ may_do write m → b ≡ true → tells (m.memory + (a - m.address)) ≡ reach_in a write (some m)
+pub in_taken : (a : ℕ) (write : Bool) (m : Mapping) (b : Bool) → b ≡ may_do write m → b ≡ true → tells (m.memory + (a - m.address)) ≡ reach_in a write (Some m)
 in_taken a write m b e f = rw (sym e ∙ f)
 
 module _ (os : List Object) (ms : List Mapping) (d a n : ℕ) (write : Bool) (o : Object) (p : o ≡ object_at os d) (x : ℕ) (q : x ≡ first (reach_checks o.kind a n) 0) where
@@ -96,18 +85,18 @@ module _ (os : List Object) (ms : List Mapping) (d a n : ℕ) (write : Bool) (o 
   pub reach-refused : (x ≡ 0 → ⊥) → refuse x ≡ reach_of os ms d a n write
   reach-refused h = settled x (first (reach_checks (object_at os d).kind a n) 0) (reach_in a write (around ms (home_of (object_at os d).kind) (span a n))) errno h ∙ sym (reach_split os ms d a n write)
 
-  module _ (s : ℕ) (i : Range) (f : Source) (z : x ≡ 0) (hs : s ≡ home_of o.kind) (hi : i ≡ span a n) (hf : f ≡ sourced (around ms s i)) where
+  module _ (s : ℕ) (i : Range) (f : Option Mapping) (z : x ≡ 0) (hs : s ≡ home_of o.kind) (hi : i ≡ span a n) (hf : f ≡ around ms s i) where
     same : (k : Option Mapping) → around ms s i ≡ k → reach_in a write k ≡ reach_of os ms d a n write
     same k g =
         ap (reach_in a write) (sym g ∙ ap (λ (j : Range). around ms s j) hi ∙ ap (λ (h : ℕ). around ms h (span a n)) (hs ∙ ap (λ (o : Object). home_of o.kind) p))
         ∙ taken x (first (reach_checks (object_at os d).kind a n) 0) (reach_in a write (around ms (home_of (object_at os d).kind) (span a n))) errno z
         ∙ sym (reach_split os ms d a n write)
 
-    pub reach-nowhere : f ≡ Missing → refuse 14 ≡ reach_of os ms d a n write
-    reach-nowhere g = same none (from_nothing (around ms s i) (sym hf ∙ g))
+    pub reach-nowhere : f ≡ None → refuse 14 ≡ reach_of os ms d a n write
+    reach-nowhere g = same None (sym hf ∙ g)
 
-    pub reach-found : (m : Mapping) (r : Edit) → f ≡ Mapped m → r ≡ reach_in a write (some m) → r ≡ reach_of os ms d a n write
-    reach-found m r g k = k ∙ same (some m) (from_in (around ms s i) m (sym hf ∙ g))
+    pub reach-found : (m : Mapping) (r : Edit) → f ≡ Some m → r ≡ reach_in a write (Some m) → r ≡ reach_of os ms d a n write
+    reach-found m r g k = k ∙ same (Some m) (sym hf ∙ g)
 
 -- ---- next
 

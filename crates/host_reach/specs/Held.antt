@@ -1,9 +1,8 @@
 -- What reach answers of the mapping that it looks for.
-use Rattle.std.specs.Prelude.{ℕ, zero, suc, ◌+◌, ◌-◌, ◌≡◌, Bool, cond}
+use Rattle.std.specs.Prelude.{ℕ, zero, suc, ◌+◌, ◌-◌, ◌≡◌, Bool, cond, Option, None, Some}
 use Rattle.std.proofs.Math.Path.{refl, sym, ap}
 use Rattle.std.proofs.Common.{◌∙◌, arith}
 use mathlib.Core.List.{List, [], ◌∷◌}
-use Rattle.std.proofs.Math.Option.{Option, none, some}
 use Rattle.lists.specs.Tests.{by-test}
 use Rattle.lists.specs.Checks.{Check, first, first-append, first-fires, first_passes}
 use Rattle.lists.specs.Each.{Each}
@@ -17,8 +16,8 @@ use Rattle.rules_calls.specs.Reach.{around, may_do, reach_checks, held_checks, m
 
 -- what reach answers of the mapping that it found, once what is asked is in order
 abbrev pub reach_in : ℕ → Bool → Option Mapping → Edit
-reach_in a write none = refuse 14
-reach_in a write (some m) = cond (may_do write m) (tells (m.memory + (a - m.address))) (refuse 1)
+reach_in a write None = refuse 14
+reach_in a write (Some m) = cond (may_do write m) (tells (m.memory + (a - m.address))) (refuse 1)
 
 nonzero : (n : ℕ) (x y : Edit) → (n ≡ 0 → ⊥) → settle n x ≡ settle n y
 nonzero zero x y h = absurd (h refl)
@@ -27,8 +26,8 @@ nonzero (suc n) x y h = refl
 module _ (a : ℕ) (write : Bool) (o : Option Mapping) where
   last-two : (k : Option Mapping) → settle (first (held_checks write k) 0) (tells (memory_at a k)) ≡ reach_in a write k
   unfolding held_checks first
-  last-two none = refl
-  last-two (some m) = by-test (may_do write m) (λ e. rw e) (λ e. rw e)
+  last-two None = refl
+  last-two (Some m) = by-test (may_do write m) (λ e. rw e) (λ e. rw e)
 
   split : (cs : List (Check ℕ)) → Each (λ c. c.answer ≡ 0 → ⊥) cs → settle (first cs (first (held_checks write o) 0)) (tells (memory_at a o)) ≡ settle (first cs 0) (reach_in a write o)
   unfolding first

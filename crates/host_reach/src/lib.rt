@@ -1,8 +1,7 @@
 // What reach and next find in a good table.
 #![tactic(auto)]
 
-ghost use Rattle.std.specs.Prelude.{true, List, ◌≡◌, ℕ, ◌+◌, ◌-◌, ◌≤◌, ◌<◌};
-ghost use Rattle.std.proofs.Math.Option.{some};
+ghost use Rattle.std.specs.Prelude.{true, List, ◌≡◌, ℕ, ◌+◌, ◌-◌, ◌≤◌, ◌<◌, Some};
 ghost use Rattle.lists.specs.Each.{Each};
 ghost use Rattle.lists.specs.Checks.{first};
 ghost use Rattle.ranges.specs.Ranges.{U64MAX};
@@ -14,7 +13,6 @@ ghost use Rattle.layout_mappings.specs.Words.{records_of};
 ghost use Rattle.index_search.specs.Indexed.{Indexed};
 ghost use Rattle.host_reach.specs.Held.{reach_in};
 
-use index_search::Source;
 use rules_calls::Edit;
 use rules_table::{Kind, Mapping, Object};
 
@@ -31,7 +29,7 @@ fn may_do(write: bool, m: Mapping) -> bool
 // The memory behind address a of a mapping that holds it.
 fn reach_in(m: Mapping, a: u64, write: bool) -> Edit
     requires { (m.address ≤ a) × (m.memory + (a - m.address) ≤ U64MAX) }
-    ensures { result ≡ reach_in a write (some m) }
+    ensures { result ≡ reach_in a write (Some m) }
 {
     if !may_do(write, m) {
         return edits::refusal(1);
@@ -77,7 +75,7 @@ pub fn reach_of<'a>(
     let s = table::home_of(k);
     let r = ranges::span_of(a, n);
     let f = index_search::find_around(ws, ix, listed, s, r);
-    let Source::Mapped(m) = f else {
+    let Some(m) = f else {
         return edits::refusal(14);
     };
     reach_in(m, a, write)

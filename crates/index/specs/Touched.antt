@@ -1,10 +1,9 @@
 -- What a list by space and address, in which each mapping ends before the next of its space begins, tells from one place: whether a range touches a mapping of the space
 -- (`touched-is`), and which mapping holds it whole (`held-is`). Such a list is had exactly where no two mappings of a space share an address.
-use Rattle.std.specs.Prelude.{ℕ, suc, ◌≤◌, ◌<◌, min, max, ◌≡◌, refl, Bool, false, ◌&&◌, cond, List, leb, ltb, get_or}
+use Rattle.std.specs.Prelude.{ℕ, suc, ◌≤◌, ◌<◌, min, max, ◌≡◌, refl, Bool, false, ◌&&◌, cond, List, leb, ltb, get_or, Option, None, Some}
 use Rattle.std.proofs.Common.{sym, ◌∙◌}
 use Rattle.std.proofs.Math.Path.{ap}
 use Rattle.std.proofs.Math.Bool.{true, not}
-use Rattle.std.proofs.Math.Option.{Option, none, some}
 use native.Mathlib.Omega.{arith}
 use Rattle.std.proofs.Math.Dec.{eqb}
 use borrow.Author.Tests.{leb-true, leb-false, le-leb, ltb-true, ltb-false, eqb-true, eq-eqb, ne_eqb, not-true, not-false}
@@ -218,8 +217,8 @@ touched-is xs ms s r l g e h = sym (lists-any xs ms l (touches s r) (free-touche
 -- ---- where at most one mapping passes a test
 
 abbrev pub only_the : {A : Type 0} → (A → Bool) → Option A → Option A
-only_the p none = none
-only_the p (some a) = cond (p a) (some a) none
+only_the p None = None
+only_the p (Some a) = cond (p a) (Some a) None
 
 pub record_at-is : (ms : List Mapping) (k : ℕ) → mapping_at ms (suc k) ≡ get_or ms k zero_mapping
 unfolding mapping_at
@@ -242,8 +241,8 @@ module _ (xs : List ℕ) (ms : List Mapping) (s x : ℕ) (t : Mapping → Bool) 
   alone-latest = go (latest (up_to s x) (view xs ms)) refl
     where
       go : (o : Option Mapping) → latest (up_to s x) (view xs ms) ≡ o → find t ms ≡ only_the t o
-      go none f = find-any_false t ms (alone-any ∙ ap (passing t) f)
-      go (some y) f =
+      go None f = find-any_false t ms (alone-any ∙ ap (passing t) f)
+      go (Some y) f =
           by-test (t y)
           (λ p.
           let pl = latest-place (up_to s x) (view xs ms) zero_mapping y f in
@@ -251,7 +250,7 @@ module _ (xs : List ℕ) (ms : List Mapping) (s x : ℕ) (t : Mapping → Bool) 
           let yk : y ≡ mapping_at ms k = pl.2 ∙ get_d_view xs ms pl.0 in
           let up = used-place ms k (lists-used xs ms l pl.0 (omega (arith, pl.1, length-view xs ms))) in
           let yg : y ≡ get_or ms up.0 zero_mapping = yk ∙ ap (mapping_at ms) up.1 ∙ record_at-is ms up.0 in
-          rw p (find-only t t (λ m q. q) ms zero_mapping alone-once up.0 up.2 (rw (← yg) p) ∙ ap some (sym yg)))
+          rw p (find-only t t (λ m q. q) ms zero_mapping alone-once up.0 up.2 (rw (← yg) p) ∙ ap Some (sym yg)))
           (λ p. rw p (find-any_false t ms (alone-any ∙ ap (passing t) f ∙ p)))
 
   pub alone-is : find t ms ≡ only_the t (prior zero_mapping (view xs ms) (until (view xs ms) s x))

@@ -1,10 +1,9 @@
 -- Next in plain terms, for any records (`next-number-is`).
 use Prim.Native.Nat.{ℕ, zero, suc, ◌+◌, ◌≤◌, ◌<◌}
-use Rattle.std.specs.Prelude.{◌≡◌, ◌&&◌, ◌||◌, List, eqb, length}
+use Rattle.std.specs.Prelude.{◌≡◌, ◌&&◌, ◌||◌, List, eqb, length, Option, None, Some}
 use Rattle.std.proofs.Math.Path.{refl, ap}
 use Rattle.std.proofs.Common.{sym, ◌∙◌}
 use Rattle.std.proofs.Math.Bool.{true, false, not}
-use Rattle.std.proofs.Math.Option.{Option, none, some}
 use native.Mathlib.Omega.{arith}
 use Rattle.std.proofs.Math.Dec.{leb, ltb}
 use Rattle.std.proofs.Math.ListN.{get_or}
@@ -94,17 +93,17 @@ module _ (ms : List Mapping) (s a : ℕ) (h : 0 < s) where
   next_number-is = go (seek (is_next s a ms) 1 ms) refl
     where
       go : (o : Option ℕ) → seek (is_next s a ms) 1 ms ≡ o → NextMapping ms s a (number_in o)
-      go none f = record {
+      go None f = record {
         most = omega arith;
         found = λ k. absurd (omega (arith, k));
         lowest = λ k. absurd (omega (arith, k));
         never = λ e q u v. let w = ends-slot q (ends_of s a (mapping_at ms q) u v) in
             contrary (any (is_next s a ms) ms) (next-some (suc (get_or ms w.0 zero_mapping).address) w.0 w.1 (rw (← w.2) (ends_of s a (mapping_at ms q) u v)) (omega arith)) (seek-none (is_next s a ms) 1 ms f);
       }
-      go (some zero) f = absurd (omega (arith, (seek-some_lt (is_next s a ms) 1 ms 0 f).0))
-      go (some (suc i)) f =
+      go (Some zero) f = absurd (omega (arith, (seek-some_lt (is_next s a ms) 1 ms 0 f).0))
+      go (Some (suc i)) f =
           let y : suc i ≡ 1 + i = omega arith in
-          let t : is_next s a ms (mapping_at ms (suc i)) ≡ true = rw (record_at-is ms i) (seek-some_at (is_next s a ms) 1 ms zero_mapping i (f ∙ ap some y)) in
+          let t : is_next s a ms (mapping_at ms (suc i)) ≡ true = rw (record_at-is ms i) (seek-some_at (is_next s a ms) 1 ms zero_mapping i (f ∙ ap Some y)) in
           let m = mapping_at ms (suc i) in
           record {
             most = omega (arith, (seek-some_lt (is_next s a ms) 1 ms (suc i) f).1);

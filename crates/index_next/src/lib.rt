@@ -12,21 +12,16 @@ ghost use Rattle.index_next.specs.NextPlace.{told};
 fn ends_at(first: u64, length: u64, a: u64) -> bool
     ensures { result ≡ leb a (last_of first length) }
 {
-    if a <= first {
-        return true;
-    }
-    a - first < length
+    a <= first || a - first < length
 }
 
 // Whether the record in a slot is a mapping of space s that ends at or after address a.
+#[tactic(auto, unfolding(rules_calls::specs::Next::ends_from, rules_table::specs::Records::of_space))]
 fn ends_from(ws: &[[u64; 5]], i: usize, s: u32, a: u64) -> bool
     requires { i < length ws.now }
     ensures { result ≡ ends_from s a (record_of (get_or ws.now i [])) }
 {
-    checks::both(
-        (ws[i][0] % 4294967296) as u32 == s,
-        ends_at(ws[i][2], ws[i][3], a),
-    )
+    (ws[i][0] % 4294967296) as u32 == s && ends_at(ws[i][2], ws[i][3], a)
 }
 
 // The number at place k of an index, if its record is a mapping of space s that ends at or after address a, else 0.
@@ -34,23 +29,10 @@ fn told_at<'a>(ws: &'a [[u64; 5]], ix: &'a [u64], n: usize, k: usize, s: u32, a:
     requires { Indexed n ix.now (records_of ws.now) × (0 < s) }
     ensures { result ≡ told (take n ix.now) (records_of ws.now) s a k }
 {
-    if n <= k {
-        return 0;
-    }
-    if ends_from(ws, index_search::slot_at(ix, k), s, a) {
+    if k < n && ends_from(ws, index_search::slot_at(ix, k), s, a) {
         return ix[k];
     }
     0
-}
-
-// The place before k, and the first where there is none.
-fn place_before(k: usize) -> usize
-    ensures { result ≡ k - 1 }
-{
-    if k == 0 {
-        return 0;
-    }
-    k - 1
 }
 
 // The number of the next mapping of space s from address a on: the last mapping that begins by a, if it ends at or after a, else the one behind it, if it is of the space.
@@ -59,7 +41,7 @@ pub fn next_number<'a>(ws: &'a [[u64; 5]], ix: &'a [u64], n: usize, s: u32, a: u
     ensures { result ≡ next_number (records_of ws.now) s a }
 {
     let k = index_search::count_entered(ws, ix, n, true, s, a);
-    let r = told_at(ws, ix, n, place_before(k), s, a);
+    let r = told_at(ws, ix, n, k.saturating_sub(1), s, a);
     if r != 0 {
         return r;
     }

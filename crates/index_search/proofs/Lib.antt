@@ -1,4 +1,3 @@
-pub mod Comparing
 pub mod Halving
 pub mod Telling
 pub mod Adding

@@ -1,4 +1,5 @@
 -- What each return of the dispatcher gives: a refusal before the command's own work, or what its arm decided.
+use Rattle.std.specs.Prelude.{Some, Ok, Err}
 use Prim.Native.Nat.{ℕ, zero, suc, ◌≤◌, ◌<◌}
 use mathlib.Core.Path.{◌≡◌, refl, sym, ap, subst, ◌∙◌}
 use mathlib.Core.Bool.{Bool, true, false, not, ◌&&◌}
@@ -7,9 +8,9 @@ use native.Mathlib.Omega.{arith}
 use Rattle.lists.specs.Tests.{by-test}
 use Rattle.rules_calls.specs.declared.Command.{Command}
 use Rattle.rules_calls.specs.declared.Command.TheVariants.{IovaRanges}
-use Rattle.rules_calls.specs.declared.Row.TheVariants.{Listed}
-use Rattle.rules_calls.specs.declared.Opening.{Opening}
-use Rattle.rules_calls.specs.declared.Opening.TheVariants.{UnknownRequest, NoSizeField, SizeTooSmall, SizePastBytes, TailNotZero, Open}
+use Rattle.rules_calls.specs.Opening.{Opening}
+use Rattle.rules_calls.specs.declared.Unopened.{Unopened}
+use Rattle.rules_calls.specs.declared.Unopened.TheVariants.{UnknownRequest, NoSizeField, SizeTooSmall, SizePastBytes, TailNotZero}
 use Rattle.rules_calls.specs.Requests.{request_of, lookup}
 use Rattle.rules_calls.specs.Opening.{opened, opening_errno}
 use Rattle.opening.specs.Opened.{opened-open}
@@ -30,7 +31,7 @@ use Rattle.rules_calls.specs.Call.{Done, row_done, call_done, call_edit}
 use Rattle.rules_index.specs.Index.{agrees}
 use Rattle.rules_index.specs.Board.{Board, board_edit, board_done}
 use Rattle.index.specs.Boards.{guarded-same, guarded-other, made-edit, made-done}
-use Rattle.iommufd.specs.Deciding.{command_in, Left, Settled, Decided}
+use Rattle.iommufd.specs.Deciding.{Left, Settled, Decided}
 
 module _ (t : Table) (cmd area : List ℕ) (request : ℕ) where
   -- what an edit leaves is what the call leaves, if it is the call's
@@ -52,14 +53,14 @@ module _ (t : Table) (cmd area : List ℕ) (request : ℕ) where
       from-edit e cmd area (k ∙ rw (← g)) (sym p.0) (sym p.1)
 
   -- the arm of a command that is open
-  pub arm : (c : Command) (e : Edit) (cmd' area' : List ℕ) → good t ≡ true → opened request cmd ≡ Open c → Left c t cmd area e cmd' area' → Settled t request cmd area e cmd' area'
+  pub arm : (c : Command) (e : Edit) (cmd' area' : List ℕ) → good t ≡ true → opened request cmd ≡ Ok c → Left c t cmd area e cmd' area' → Settled t request cmd area e cmd' area'
   unfolding call_edit gate_errno
   arm c e cmd' area' g o l =
-      let f : lookup request ≡ Listed c (request_of c).size = sym (listed c request (sym (opened-open request cmd c o).number)) in
+      let f : lookup request ≡ Some c = sym (listed c request (sym (opened-open request cmd c o).number)) in
       from-edit e cmd' area' (l.0 ∙ rw (g, o, f)) (l.1 ∙ rw f) (l.2 ∙ rw f)
 
   -- the same of a table that is this one
-  pub arm-of : (u : Table) (c : Command) (e : Edit) (cmd' area' : List ℕ) → u ≡ t → good t ≡ true → opened request cmd ≡ Open c → Left c u cmd area e cmd' area' → Settled t request cmd area e cmd' area'
+  pub arm-of : (u : Table) (c : Command) (e : Edit) (cmd' area' : List ℕ) → u ≡ t → good t ≡ true → opened request cmd ≡ Ok c → Left c u cmd area e cmd' area' → Settled t request cmd area e cmd' area'
   arm-of u c e cmd' area' q g o l = arm c e cmd' area' g o (rw (← q) l)
 
   -- 117, or the errno of the opening
@@ -111,18 +112,14 @@ pub ranges-left : (t : Table) (cmd area : List ℕ) (e : Edit) (cmd' area' : Lis
 unfolding ranges_replied ranges_filled
 ranges-left t cmd area e cmd' area' k d = (k ∙ ap refuse d.errno, d.bytes, d.ranges)
 
--- ---- the opening
+-- ---- a command that is not open is refused
 
-pub is_open : (o p : Opening) (n : ℕ) (k c : Command) → o ≡ p → n ≡ opening_errno o → n ≡ 0 → k ≡ command_in o → k ≡ c → p ≡ Open c
-is_open o p n k c e f z g h = sym e ∙ go o (sym f ∙ z) ∙ ap Open (sym g ∙ h)
-  where
-    go : (o : Opening) → opening_errno o ≡ 0 → o ≡ Open (command_in o)
-    go UnknownRequest y = absurd (omega (arith, y))
-    go NoSizeField y = absurd (omega (arith, y))
-    go SizeTooSmall y = absurd (omega (arith, y))
-    go SizePastBytes y = absurd (omega (arith, y))
-    go TailNotZero y = absurd (omega (arith, y))
-    go (Open x) y = refl
+pub opened-none : (why : Unopened) (n : ℕ) → n ≡ opening_errno (Err why) → n ≡ 0 → ⊥
+opened-none UnknownRequest n e z = omega (arith, e, z)
+opened-none NoSizeField n e z = omega (arith, e, z)
+opened-none SizeTooSmall n e z = omega (arith, e, z)
+opened-none SizePastBytes n e z = omega (arith, e, z)
+opened-none TailNotZero n e z = omega (arith, e, z)
 
 -- ---- a command by its case
 

@@ -1,22 +1,13 @@
 -- What a command decides on any table, as an edit: document 01's rules up to the point where the table changes.
-use Rattle.std.specs.Prelude.{ℕ, ◌≡◌, List}
+use Rattle.std.specs.Prelude.{ℕ, ◌≡◌, List, Ok, Err}
 use Rattle.rules_calls.specs.declared.Command.{Command}
 use Rattle.rules_calls.specs.declared.Command.TheVariants.{Destroy}
-use Rattle.rules_calls.specs.declared.Opening.{Opening}
-use Rattle.rules_calls.specs.declared.Opening.TheVariants.{UnknownRequest, NoSizeField, SizeTooSmall, SizePastBytes, TailNotZero, Open}
+use Rattle.rules_calls.specs.Opening.{Opening}
+use Rattle.rules_calls.specs.declared.Unopened.TheVariants.{UnknownRequest, NoSizeField, SizeTooSmall, SizePastBytes, TailNotZero}
 use Rattle.rules_table.specs.declared.Table.{Table}
 use Rattle.rules_calls.specs.declared.Edit.{Edit}
 use Rattle.rules_calls.specs.Call.{command_edit, command_done, call_done, call_edit}
 use Rattle.rules_index.specs.Board.{Board, board_edit, board_done}
-
--- the command of an opening, and any where none is open
-abbrev pub command_in : Opening → Command
-command_in UnknownRequest = Destroy
-command_in NoSizeField = Destroy
-command_in SizeTooSmall = Destroy
-command_in SizePastBytes = Destroy
-command_in TailNotZero = Destroy
-command_in (Open c) = c
 
 -- what a command leaves by its own rule, over a good table
 abbrev pub Left : Command → Table → List ℕ → List ℕ → Edit → List ℕ → List ℕ → Type 0

@@ -14,11 +14,11 @@ ghost use Rattle.rules_calls.specs.Answers.{outcome, outcome_id, fresh_answer};
 ghost use Rattle.rules_calls.specs.Gate.{table_with};
 ghost use Rattle.rules_calls.specs.Orders.{bind_order, attach_order, detach_order, reach_order, reached_by, host_edit};
 ghost use Rattle.rules_calls.specs.Call.{call_done};
-ghost use Rattle.iommufd.specs.Deciding.{command_in, Left, Decided};
+ghost use Rattle.iommufd.specs.Deciding.{Left, Decided};
 
 use check_table::Findings;
 use rangelists::Reserved;
-use rules_calls::{Answer, Command, Edit, Opening, Reached};
+use rules_calls::{Answer, Command, Edit, Reached};
 use rules_table::Table;
 
 // An empty table with a charge limit in pages. Above 2^36 the result is -22, and every call on the table beside it answers -117.
@@ -45,20 +45,6 @@ pub fn is_good(t: Table) -> bool
 }
 
 // ---- the commands
-
-// The command that is open.
-fn command_in(o: Opening) -> Command
-    ensures { result ≡ command_in o }
-{
-    match o {
-        Opening::UnknownRequest => Command::Destroy,
-        Opening::NoSizeField => Command::Destroy,
-        Opening::SizeTooSmall => Command::Destroy,
-        Opening::SizePastBytes => Command::Destroy,
-        Opening::TailNotZero => Command::Destroy,
-        Opening::Open(c) => c,
-    }
-}
 
 fn destroy(h: &[u64; 865], id: u32) -> Edit
     ensures { result ≡ destroy_edit (objects_in h.now) id }
@@ -129,12 +115,10 @@ pub fn decide<'a>(
     if !f.good {
         return edits::refusal(117);
     }
-    let opening = opening::open(request, cmd);
-    let errno = opening::opening_errno(opening);
-    if errno != 0 {
-        return edits::refusal(errno);
-    }
-    let c = command_in(opening);
+    let c = match opening::open(request, cmd) {
+        Ok(c) => c,
+        Err(why) => return edits::refusal(opening::unopened_errno(why)),
+    };
     decide_command(h, ws, ix, &pages, &marks, f, c, cmd, area)
 }
 

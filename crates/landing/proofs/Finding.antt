@@ -1,16 +1,14 @@
 -- What each return of the code gives, in the words of the definitions.
+use Rattle.std.specs.Prelude.{None, Some, Option}
 use Prim.Native.Nat.{ℕ}
 use mathlib.Core.Path.{◌≡◌, refl, sym, ap, ◌∙◌}
 use mathlib.Core.Bool.{Bool, true, false, not}
 use mathlib.Core.List.{List, [], ◌∷◌}
-use mathlib.Core.Option.{Option, none, some}
 use native.Mathlib.Omega.{arith}
 use Rattle.lists.specs.Search.{any}
 use Rattle.lists.specs.Checks.{when, first, first-nil, first-fires, first_passes}
 use Rattle.ranges.specs.Ranges.{share, span}
-use Rattle.alignment.specs.declared.Spot.{Spot}
-use Rattle.alignment.specs.declared.Spot.TheVariants.{Nowhere, At}
-use Rattle.alignment.specs.Multiples.{multiple, fits, spot_of}
+use Rattle.alignment.specs.Multiples.{multiple, fits}
 use Rattle.rangelists.specs.declared.Allowed.{Allowed}
 use Rattle.rangelists.specs.Listed.{allowed}
 use Rattle.rules_table.specs.Flags.{bit}
@@ -38,10 +36,10 @@ fixed-is os s n x a r1 r2 r3 mapped fit touched ea ef et e1 e2 e3 =
     (checked-last mapped mapped 17 r1 0 e1 refl))
 
 -- what was found, as an errno with an address
-pub spot_none : (spot : Spot) (r x : ℕ) → r ≡ 28 → x ≡ 0 → spot ≡ Nowhere → ◌≡◌ {A = Placing} record { errno = r; address = x } (placing_of spot)
+pub spot_none : (spot : Option ℕ) (r x : ℕ) → r ≡ 28 → x ≡ 0 → spot ≡ None → ◌≡◌ {A = Placing} record { errno = r; address = x } (placing_of spot)
 spot_none spot r x f g e = rw (f, g, e)
 
-pub spot_at : (spot : Spot) (x : ℕ) → spot ≡ At x → ◌≡◌ {A = Placing} record { errno = 0; address = x } (placing_of spot)
+pub spot_at : (spot : Option ℕ) (x : ℕ) → spot ≡ Some x → ◌≡◌ {A = Placing} record { errno = 0; address = x } (placing_of spot)
 spot_at spot x e = rw e
 
 module _ (os : List Object) (ms : List Mapping) (s n : ℕ) where
@@ -54,22 +52,22 @@ module _ (os : List Object) (ms : List Mapping) (s n : ℕ) where
     address = λ z. absurd (omega (arith, z));
   }
 
-  spot_placed : multiple (alignment os s) n ≡ true → (o : Option ℕ) → automatic os ms s n ≡ o → AutomaticPlaced os ms s n (placing_of (spot_of o))
+  spot_placed : multiple (alignment os s) n ≡ true → (o : Option ℕ) → automatic os ms s n ≡ o → AutomaticPlaced os ms s n (placing_of o)
   unfolding automatic_checks
-  spot_placed m none e = record {
+  spot_placed m None e = record {
     errno =
         sym (first_passes (when (not (multiple (alignment os s) n)) 22) (when (is_none (automatic os ms s n)) 28 ∷ []) 0 (ap (λ (c : Bool). not c) m) ∙ first-fires (when (is_none (automatic os ms s n)) 28) [] 0 (ap is_none e));
     address = λ z. absurd (omega (arith, z));
   }
-  spot_placed m (some x) e = record {
+  spot_placed m (Some x) e = record {
     errno =
         sym (first_passes (when (not (multiple (alignment os s) n)) 22) (when (is_none (automatic os ms s n)) 28 ∷ []) 0 (ap (λ (c : Bool). not c) m) ∙ first_passes (when (is_none (automatic os ms s n)) 28) [] 0 (ap is_none e) ∙ first-nil 0);
     address = λ z. sym (ap number_in e);
   }
 
   -- the lowest candidate
-  pub automatic-found : (a low : ℕ) (b : Bool) (l : Allowed) (spot : Spot) (p : Placing) → a ≡ alignment os s → low ≡ lowest_tried → b ≡ multiple a n → b ≡ true
-      → l ≡ (object_at os s).allow → spot ≡ spot_of (place_of a n low (blocked_in os ms s) (allowed l)) → p ≡ placing_of spot → AutomaticPlaced os ms s n p
+  pub automatic-found : (a low : ℕ) (b : Bool) (l : Allowed) (spot : Option ℕ) (p : Placing) → a ≡ alignment os s → low ≡ lowest_tried → b ≡ multiple a n → b ≡ true
+      → l ≡ (object_at os s).allow → spot ≡ place_of a n low (blocked_in os ms s) (allowed l) → p ≡ placing_of spot → AutomaticPlaced os ms s n p
   unfolding automatic
   automatic-found a low b l spot p ea el eb e eo es ep =
       let same : automatic os ms s n ≡ place_of a n low (blocked_in os ms s) (allowed l) = rw (ea, el, eo) refl in

@@ -1,4 +1,5 @@
 -- Several windows: the lowest place in any of them is the lowest of the lowest places of each.
+use Rattle.std.specs.Prelude.{Option, None, Some}
 use Prim.Native.Nat.{ℕ, ◌+◌, ◌*◌, ◌≤◌, ◌<◌, min}
 use mathlib.Core.Path.{◌≡◌, refl, sym, ap, ◌∙◌}
 use mathlib.Core.Bool.{true}
@@ -14,9 +15,7 @@ use Rattle.lists.specs.Search.{any, drop_turn}
 use Rattle.lists.specs.Sums.{count_of-length}
 use Rattle.ranges.specs.declared.Range.{Range}
 use Rattle.ranges.specs.Ranges.{U64MAX, range, inside, last_of, last_of-max, span}
-use Rattle.alignment.specs.declared.Spot.{Spot}
-use Rattle.alignment.specs.declared.Spot.TheVariants.{Nowhere, At}
-use Rattle.alignment.specs.Multiples.{Lowest, lowest-unique, spot_of}
+use Rattle.alignment.specs.Multiples.{Lowest, lowest-unique}
 use Rattle.rangelists.specs.Listed.{listed, allowed, length-listed, get_d_listed, zero_range}
 use Rattle.rangelists.specs.declared.Allowed.{Allowed}
 use Rattle.placement.specs.Candidates.{permits, Candidate, place_of}
@@ -31,21 +30,21 @@ use Rattle.gaps.specs.Blocked.{blocked_length, permits-one, permits-only, lowest
 
 -- ---- the lower of two places
 
-lower-nowhere : (s : Spot) → lower_of s Nowhere ≡ s
-lower-nowhere Nowhere = refl
-lower-nowhere (At x) = refl
+lower-nowhere : (s : Option ℕ) → lower_of s None ≡ s
+lower-nowhere None = refl
+lower-nowhere (Some x) = refl
 
-lower-assoc : (r s t : Spot) → lower_of (lower_of r s) t ≡ lower_of r (lower_of s t)
-lower-assoc Nowhere s t = refl
-lower-assoc (At x) Nowhere t = refl
-lower-assoc (At x) (At y) Nowhere = refl
-lower-assoc (At x) (At y) (At z) = let e : min (min x y) z ≡ min x (min y z) = omega arith in ap At e
+lower-assoc : (r s t : Option ℕ) → lower_of (lower_of r s) t ≡ lower_of r (lower_of s t)
+lower-assoc None s t = refl
+lower-assoc (Some x) None t = refl
+lower-assoc (Some x) (Some y) None = refl
+lower-assoc (Some x) (Some y) (Some z) = let e : min (min x y) z ≡ min x (min y z) = omega arith in ap Some e
 
-lowest-either : (P Q : ℕ → Type 0) (r s : Spot) → Lowest P r → Lowest Q s → Lowest (λ (x : ℕ). P x ⊎ Q x) (lower_of r s)
-lowest-either P Q Nowhere Nowhere h k = λ y c. ⊎_elim (λ p. h y p) (λ q. k y q) c
-lowest-either P Q Nowhere (At y) h k = (inr k.0, λ z c. ⊎_elim (λ p. absurd (h z p)) (λ q. k.1 z q) c)
-lowest-either P Q (At x) Nowhere h k = (inl h.0, λ z c. ⊎_elim (λ p. h.1 z p) (λ q. absurd (k z q)) c)
-lowest-either P Q (At x) (At y) h k =
+lowest-either : (P Q : ℕ → Type 0) (r s : Option ℕ) → Lowest P r → Lowest Q s → Lowest (λ (x : ℕ). P x ⊎ Q x) (lower_of r s)
+lowest-either P Q None None h k = λ y c. ⊎_elim (λ p. h y p) (λ q. k y q) c
+lowest-either P Q None (Some y) h k = (inr k.0, λ z c. ⊎_elim (λ p. absurd (h z p)) (λ q. k.1 z q) c)
+lowest-either P Q (Some x) None h k = (inl h.0, λ z c. ⊎_elim (λ p. h.1 z p) (λ q. absurd (k z q)) c)
+lowest-either P Q (Some x) (Some y) h k =
     by-test (leb x y)
     (λ e. let l = leb-true x y e in let m : min x y ≡ x = omega arith in rw m (inl h.0, λ z c. ⊎_elim (λ p. h.1 z p) (λ q. omega (arith, k.1 z q)) c))
     (λ e. let l = leb-false x y e in let m : min x y ≡ y = omega arith in rw m (inr k.0, λ z c. ⊎_elim (λ p. omega (arith, h.1 z p)) (λ q. k.1 z q) c))
@@ -71,7 +70,7 @@ module _ (a n low : ℕ) (rs : List Range) where
   under ps qs x c e = record { exact = c.exact; from = c.from; ends = c.ends; clear = c.clear; permitted = e }
 
   lowest-joined : (w u : Range) (us : List Range)
-      → lower_of (spot_of (place_of a n low rs (w ∷ []))) (spot_of (place_of a n low rs (u ∷ us))) ≡ spot_of (place_of a n low rs (w ∷ u ∷ us))
+      → lower_of (place_of a n low rs (w ∷ [])) (place_of a n low rs (u ∷ us)) ≡ place_of a n low rs (w ∷ u ∷ us)
   lowest-joined w u us =
       lowest-unique (Candidate a n low rs (w ∷ u ∷ us)) _ _
       (lowest-same
@@ -79,14 +78,14 @@ module _ (a n low : ℕ) (rs : List Range) where
       (Candidate a n low rs (w ∷ u ∷ us))
       (λ x p. ⊎_elim (λ c. under (w ∷ []) (w ∷ u ∷ us) x c (permits-head w u us (span x n) c.permitted)) (λ c. under (u ∷ us) (w ∷ u ∷ us) x c (permits-tail w u us (span x n) c.permitted)) p)
       (λ x c. ⊎_elim (λ e. inl (under (w ∷ u ∷ us) (w ∷ []) x c e)) (λ e. inr (under (w ∷ u ∷ us) (u ∷ us) x c e)) (permits-either w u us (span x n) c.permitted))
-      (lower_of (spot_of (place_of a n low rs (w ∷ []))) (spot_of (place_of a n low rs (u ∷ us))))
-      (lowest-either (Candidate a n low rs (w ∷ [])) (Candidate a n low rs (u ∷ us)) (spot_of (place_of a n low rs (w ∷ []))) (spot_of (place_of a n low rs (u ∷ us))) (place-lowest a n low rs (w ∷ [])) (place-lowest a n low rs (u ∷ us))))
+      (lower_of (place_of a n low rs (w ∷ [])) (place_of a n low rs (u ∷ us)))
+      (lowest-either (Candidate a n low rs (w ∷ [])) (Candidate a n low rs (u ∷ us)) (place_of a n low rs (w ∷ [])) (place_of a n low rs (u ∷ us)) (place-lowest a n low rs (w ∷ [])) (place-lowest a n low rs (u ∷ us))))
       (place-lowest a n low rs (w ∷ u ∷ us))
 
-  windows-listed : (w : Range) (ws : List Range) → in_windows a n low rs (w ∷ ws) ≡ spot_of (place_of a n low rs (w ∷ ws))
+  windows-listed : (w : Range) (ws : List Range) → in_windows a n low rs (w ∷ ws) ≡ place_of a n low rs (w ∷ ws)
   unfolding in_windows
-  windows-listed w [] = lower-nowhere (spot_of (place_of a n low rs (w ∷ [])))
-  windows-listed w (u ∷ us) = ap (lower_of (spot_of (place_of a n low rs (w ∷ [])))) (windows-listed u us) ∙ lowest-joined w u us
+  windows-listed w [] = lower-nowhere (place_of a n low rs (w ∷ []))
+  windows-listed w (u ∷ us) = ap (lower_of (place_of a n low rs (w ∷ []))) (windows-listed u us) ∙ lowest-joined w u us
 
   -- without an allow list the window holds every address
   permits-all : (x : ℕ) → permits (range 0 U64MAX ∷ []) (span x n) ≡ true
@@ -99,21 +98,21 @@ module _ (a n low : ℕ) (rs : List Range) where
   unfolding permits
   permits-free r = refl
 
-  windows-open : spot_of (place_of a n low rs (range 0 U64MAX ∷ [])) ≡ spot_of (place_of a n low rs [])
+  windows-open : (place_of a n low rs (range 0 U64MAX ∷ [])) ≡ place_of a n low rs []
   windows-open =
       lowest-unique (Candidate a n low rs []) _ _
       (lowest-same (Candidate a n low rs (range 0 U64MAX ∷ [])) (Candidate a n low rs [])
       (λ x c. under (range 0 U64MAX ∷ []) [] x c (permits-free (span x n)))
       (λ x c. under [] (range 0 U64MAX ∷ []) x c (permits-all x))
-      (spot_of (place_of a n low rs (range 0 U64MAX ∷ [])))
+      (place_of a n low rs (range 0 U64MAX ∷ []))
       (place-lowest a n low rs (range 0 U64MAX ∷ [])))
       (place-lowest a n low rs [])
 
-  windows-nil : in_windows a n low rs [] ≡ Nowhere
+  windows-nil : in_windows a n low rs [] ≡ None
   unfolding in_windows
   windows-nil = refl
 
-  windows-cons : (w : Range) (ws : List Range) → in_windows a n low rs (w ∷ ws) ≡ lower_of (spot_of (place_of a n low rs (w ∷ []))) (in_windows a n low rs ws)
+  windows-cons : (w : Range) (ws : List Range) → in_windows a n low rs (w ∷ ws) ≡ lower_of (place_of a n low rs (w ∷ [])) (in_windows a n low rs ws)
   unfolding in_windows
   windows-cons w ws = refl
 
@@ -123,12 +122,12 @@ pub blocked_most : (os : List Object) (ms : List Mapping) (s : ℕ) → length (
 blocked_most os ms s = omega (arith, blocked_length os ms s, reserved_of-most os s, count_of-length (of_space s) ms)
 
 -- given G, the best so far and what is left give the answer; and in each window there were at most n jumps
-pub record Joined (G : Type 0) (a size low : ℕ) (rs ws : List Range) (n m : ℕ) (best : Spot) (jumps i : ℕ) : Type 0 where
+pub record Joined (G : Type 0) (a size low : ℕ) (rs ws : List Range) (n m : ℕ) (best : Option ℕ) (jumps i : ℕ) : Type 0 where
   pub same : G → lower_of best (in_windows a size low rs (drop i ws)) ≡ in_windows a size low rs ws
   pub upto : i ≤ m
   pub few : jumps ≤ i * n
 
-pub join_start : (G : Type 0) (a size low : ℕ) (rs ws : List Range) (n m : ℕ) → Joined G a size low rs ws n m Nowhere 0 0
+pub join_start : (G : Type 0) (a size low : ℕ) (rs ws : List Range) (n m : ℕ) → Joined G a size low rs ws n m None 0 0
 join_start G a size low rs ws n m = record { same = λ g. refl; upto = omega arith; few = omega arith }
 
 module _
@@ -139,22 +138,22 @@ module _
     (ss ls : List ℕ)
     (hs : m ≤ length ss)
     (hl : m ≤ length ls)
-    (best : Spot)
+    (best : Option ℕ)
     (jumps i : ℕ)
     (v : Joined G a size low rs (listed m ss ls) n m best jumps i) where
   pub join_small : n ≤ 256 → m ≤ 8 → jumps ≤ 2048
   join_small h k = omega (arith, v.few, mul-le-mul_right {m = i} {n = 8} n (omega (arith, v.upto)))
 
-  pub join_on : (s t : Spot) (j : ℕ) → i < m → (G → s ≡ spot_of (place_of a size low rs (range (get_or ss i 0) (get_or ls i 0) ∷ []))) × (j ≤ n)
+  pub join_on : (s t : Option ℕ) (j : ℕ) → i < m → (G → s ≡ place_of a size low rs (range (get_or ss i 0) (get_or ls i 0) ∷ [])) × (j ≤ n)
       → t ≡ lower_of best s → Joined G a size low rs (listed m ss ls) n m t (jumps + j) (i + 1)
   join_on s t j h e f = record {
     same = λ g.
-        rw (f, e.0 g) (lower-assoc best (spot_of (place_of a size low rs (range (get_or ss i 0) (get_or ls i 0) ∷ []))) (in_windows a size low rs (drop (i + 1) (listed m ss ls))) ∙ ap (lower_of best) (sym left) ∙ v.same g);
+        rw (f, e.0 g) (lower-assoc best (place_of a size low rs (range (get_or ss i 0) (get_or ls i 0) ∷ [])) (in_windows a size low rs (drop (i + 1) (listed m ss ls))) ∙ ap (lower_of best) (sym left) ∙ v.same g);
     upto = omega arith;
     few = omega (arith, v.few, e.1, add-mul i 1 n, one-mul n);
   }
     where
-      left : in_windows a size low rs (drop i (listed m ss ls)) ≡ lower_of (spot_of (place_of a size low rs (range (get_or ss i 0) (get_or ls i 0) ∷ []))) (in_windows a size low rs (drop (i + 1) (listed m ss ls)))
+      left : in_windows a size low rs (drop i (listed m ss ls)) ≡ lower_of (place_of a size low rs (range (get_or ss i 0) (get_or ls i 0) ∷ [])) (in_windows a size low rs (drop (i + 1) (listed m ss ls)))
       left =
           ap (in_windows a size low rs) (drop_turn (listed m ss ls) zero_range i (rw (length-listed m ss ls hs hl) h))
           ∙ windows-cons a size low rs (get_or (listed m ss ls) i zero_range) (drop (i + 1) (listed m ss ls))
@@ -176,11 +175,11 @@ none-listed [] e = refl
 none-listed (q ∷ qs) e = absurd (omega arith)
 
 -- an answer as the contract of `place` has it
-abbrev pub Placed : Type 0 → ℕ → ℕ → ℕ → List Range → List Range → Spot → ℕ → Type 0
-Placed G a size low rs qs s jumps = (G → s ≡ spot_of (place_of a size low rs qs)) × (jumps ≤ windows_of qs * length rs)
+abbrev pub Placed : Type 0 → ℕ → ℕ → ℕ → List Range → List Range → Option ℕ → ℕ → Type 0
+Placed G a size low rs qs s jumps = (G → s ≡ place_of a size low rs qs) × (jumps ≤ windows_of qs * length rs)
 
-module _ (G : Type 0) (a size low : ℕ) (rs : List Range) (s : Spot) (jumps : ℕ) where
-  open_placed : (qs : List Range) → length qs ≡ 0 → (G → s ≡ spot_of (place_of a size low rs (range 0 U64MAX ∷ []))) × (jumps ≤ length rs)
+module _ (G : Type 0) (a size low : ℕ) (rs : List Range) (s : Option ℕ) (jumps : ℕ) where
+  open_placed : (qs : List Range) → length qs ≡ 0 → (G → s ≡ place_of a size low rs (range 0 U64MAX ∷ [])) × (jumps ≤ length rs)
       → Placed G a size low rs qs s jumps
   unfolding windows_of
   open_placed qs z e = rw (none-listed qs z) (λ g. e.0 g ∙ windows-open a size low rs, omega (arith, e.1, one-mul (length rs)))
@@ -191,8 +190,8 @@ module _ (G : Type 0) (a size low : ℕ) (rs : List Range) (s : Spot) (jumps : �
   listed-placed (q ∷ qs) z e = (λ g. e.0 g ∙ windows-listed a size low rs q qs, e.1)
 
 -- without an allow list in one window, else in each of its ranges
-module _ (G : Type 0) (a size low : ℕ) (rs : List Range) (q : Allowed) (s : Spot) (jumps : ℕ) where
-  pub place-open : q.count ≡ 0 → (G → s ≡ spot_of (place_of a size low rs (range 0 U64MAX ∷ []))) × (jumps ≤ length rs) → Placed G a size low rs (allowed q) s jumps
+module _ (G : Type 0) (a size low : ℕ) (rs : List Range) (q : Allowed) (s : Option ℕ) (jumps : ℕ) where
+  pub place-open : q.count ≡ 0 → (G → s ≡ place_of a size low rs (range 0 U64MAX ∷ [])) × (jumps ≤ length rs) → Placed G a size low rs (allowed q) s jumps
   unfolding allowed listed
   place-open z e = open_placed G a size low rs s jumps (allowed q) (rw z) e
 

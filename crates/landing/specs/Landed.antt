@@ -1,17 +1,16 @@
 -- What an accepted place is: aligned, within U64MAX, clear of reserved ranges and of the mappings of its space. An automatic one is the lowest candidate, and there is
 -- none exactly where the answer is 28.
-use Rattle.std.specs.Prelude.{ℕ, ◌≤◌, ◌≡◌, Bool, ◌||◌}
+use Rattle.std.specs.Prelude.{ℕ, ◌≤◌, ◌≡◌, Bool, ◌||◌, Option, None, Some}
 use Rattle.std.proofs.Math.Path.{refl, sym}
 use Rattle.std.proofs.Common.{ap, ◌∙◌, arith}
 use Rattle.std.proofs.Math.Bool.{true, false, not}
 use mathlib.Core.List.{List, [], ◌∷◌}
-use Rattle.std.proofs.Math.Option.{Option, none, some}
 use borrow.Author.Tests.{not-false}
 use Rattle.lists.specs.Tests.{contrary, and_both, or_not_left, or_not_right}
 use Rattle.lists.specs.Search.{any}
 use Rattle.lists.specs.Checks.{Check, when, first, first-fires, first_passes, Refusals, passed}
 use Rattle.ranges.specs.Ranges.{share, passes, span}
-use Rattle.alignment.specs.Multiples.{multiple, fits, fits-length, Lowest, spot_of}
+use Rattle.alignment.specs.Multiples.{multiple, fits, fits-length, Lowest}
 use Rattle.rangelists.specs.Listed.{allowed}
 use Rattle.placement.specs.Lowest.{place-lowest}
 use Rattle.rules_table.specs.declared.Object.{Object}
@@ -30,7 +29,7 @@ pub record Landed (os : List Object) (ms : List Mapping) (s n x : ℕ) : Type 0 
 
 module _ (os : List Object) (ms : List Mapping) (s n : ℕ) where
   -- THE LAW: the automatic place is the lowest candidate, or there is none
-  pub automatic-lowest : Lowest (CandidateIn os ms s n) (spot_of (automatic os ms s n))
+  pub automatic-lowest : Lowest (CandidateIn os ms s n) (automatic os ms s n)
   unfolding automatic
   automatic-lowest = place-lowest (alignment os s) n lowest_tried (blocked_in os ms s) (allowed (object_at os s).allow)
 
@@ -45,9 +44,9 @@ module _ (os : List Object) (ms : List Mapping) (s n : ℕ) where
       first_passes (when (not (multiple (alignment os s) n)) 22) (when (is_none (automatic os ms s n)) 28 ∷ []) 0 (ap (λ (b : Bool). not b) m)
       ∙ first-fires (when (is_none (automatic os ms s n)) 28) [] 0 (go (automatic os ms s n) automatic-lowest)
     where
-      go : (r : Option ℕ) → Lowest (CandidateIn os ms s n) (spot_of r) → is_none r ≡ true
-      go none l = refl
-      go (some x) l = absurd (empty x l.0)
+      go : (r : Option ℕ) → Lowest (CandidateIn os ms s n) r → is_none r ≡ true
+      go None l = refl
+      go (Some x) l = absurd (empty x l.0)
 
   some-0 : multiple (alignment os s) n ≡ true → is_none (automatic os ms s n) ≡ false → first (automatic_checks os ms s n) 0 ≡ 0
   unfolding automatic_checks first
@@ -58,9 +57,9 @@ module _ (os : List Object) (ms : List Mapping) (s n : ℕ) where
   pub only-28 : multiple (alignment os s) n ≡ true → first (automatic_checks os ms s n) 0 ≡ 28 → (x : ℕ) → CandidateIn os ms s n x → ⊥
   only-28 m e = go (automatic os ms s n) refl automatic-lowest
     where
-      go : (r : Option ℕ) → automatic os ms s n ≡ r → Lowest (CandidateIn os ms s n) (spot_of r) → (x : ℕ) → CandidateIn os ms s n x → ⊥
-      go none f l = l
-      go (some y) f l = λ x c. omega (arith, sym e ∙ some-0 m (ap is_none f))
+      go : (r : Option ℕ) → automatic os ms s n ≡ r → Lowest (CandidateIn os ms s n) r → (x : ℕ) → CandidateIn os ms s n x → ⊥
+      go None f l = l
+      go (Some y) f l = λ x c. omega (arith, sym e ∙ some-0 m (ap is_none f))
 
   -- an automatic place that is accepted
   module _ (e : first (automatic_checks os ms s n) 0 ≡ 0) where
@@ -75,9 +74,9 @@ module _ (os : List Object) (ms : List Mapping) (s n : ℕ) where
     pub automatic-candidate : CandidateIn os ms s n (number_in (automatic os ms s n)) × ((y : ℕ) → CandidateIn os ms s n y → number_in (automatic os ms s n) ≤ y)
     automatic-candidate = go (automatic os ms s n) automatic-lowest somewhere
       where
-        go : (r : Option ℕ) → Lowest (CandidateIn os ms s n) (spot_of r) → is_none r ≡ false → CandidateIn os ms s n (number_in r) × ((y : ℕ) → CandidateIn os ms s n y → number_in r ≤ y)
-        go none l f = contrary true refl f
-        go (some x) l f = l
+        go : (r : Option ℕ) → Lowest (CandidateIn os ms s n) r → is_none r ≡ false → CandidateIn os ms s n (number_in r) × ((y : ℕ) → CandidateIn os ms s n y → number_in r ≤ y)
+        go None l f = contrary true refl f
+        go (Some x) l f = l
 
     automatic-landed : Landed os ms s n (number_in (automatic os ms s n))
     unfolding taken

@@ -1,8 +1,6 @@
 -- The answer of the code that finds a place: the errno of the first check that fires, and the address where none does.
-use Rattle.std.specs.Prelude.{ℕ, ◌≡◌, List}
+use Rattle.std.specs.Prelude.{ℕ, ◌≡◌, List, Option, None, Some}
 use Rattle.lists.specs.Checks.{first}
-use Rattle.alignment.specs.declared.Spot.{Spot}
-use Rattle.alignment.specs.declared.Spot.TheVariants.{Nowhere, At}
 use Rattle.rules_table.specs.Flags.{bit}
 use Rattle.rules_table.specs.declared.Object.{Object}
 use Rattle.rules_table.specs.declared.Mapping.{Mapping}
@@ -11,9 +9,9 @@ use Rattle.landing.specs.declared.Placing.{Placing}
 use Rattle.rules_calls.specs.Edits.{number_in}
 use Rattle.rules_calls.specs.Landing.{automatic, automatic_checks, place_checks, place_at}
 
-abbrev pub placing_of : Spot → Placing
-placing_of Nowhere = record { errno = 28; address = 0 }
-placing_of (At x) = record { errno = 0; address = x }
+abbrev pub placing_of : Option ℕ → Placing
+placing_of None = record { errno = 28; address = 0 }
+placing_of (Some x) = record { errno = 0; address = x }
 
 pub record AutomaticPlaced (os : List Object) (ms : List Mapping) (s n : ℕ) (p : Placing) : Type 0 where
   pub errno : p.errno ≡ first (automatic_checks os ms s n) 0

@@ -6,7 +6,6 @@ ghost use Rattle.lists.specs.Checks.{first};
 ghost use Rattle.lists.specs.Search.{any};
 ghost use Rattle.ranges.specs.Ranges.{span, share};
 ghost use Rattle.rules_table.specs.Flags.{bit};
-ghost use Rattle.alignment.specs.Multiples.{spot_of};
 ghost use Rattle.rangelists.specs.Listed.{allowed};
 ghost use Rattle.placement.specs.Candidates.{place_of};
 ghost use Rattle.placement.specs.Jumps.{in_windows, windows_of};
@@ -20,7 +19,6 @@ ghost use Rattle.rules_table.specs.Spaces.{reserved_of, alignment};
 ghost use Rattle.rules_calls.specs.Landing.{blocked_in, taken, fixed_checks};
 ghost use Rattle.landing.specs.Placing.{Placed, placing_of, AutomaticPlaced};
 
-use alignment::Spot;
 use placement::{Search, Want};
 use rangelists::Allowed;
 use ranges::{Range, U64MAX};
@@ -59,15 +57,15 @@ fn fixed_errno(a: u64, n: u64, x: u64, reserved: bool, mapped: bool) -> u8
 }
 
 // What was found, as an errno with an address.
-fn placing_of(spot: Spot) -> Placing
+fn placing_of(spot: Option<u64>) -> Placing
     ensures { result ≡ placing_of spot }
 {
     match spot {
-        Spot::Nowhere => Placing {
+        None => Placing {
             errno: 28,
             address: 0,
         },
-        Spot::At(x) => Placing {
+        Some(x) => Placing {
             errno: 0,
             address: x,
         },
@@ -90,19 +88,16 @@ fn search_each<'a>(
         × (result.jumps ≤ length (allowed allow) * length (blocked_in (objects_in h.now) (records_of ws.now) s)) }
 {
     let windows = rangelists::used(allow.count, 8);
-    let mut best = Spot::Nowhere;
+    let mut best = None;
     let mut jumps: usize = 0;
-    let mut i: usize = 0;
-    while i < windows {
+    for i in 0..windows {
         let window = Range {
             start: allow.starts[i],
             last: allow.lasts[i],
         };
         let r = gaps::gap_in(h, ws, ix, n, s, w, window);
         jumps += r.jumps;
-        let found = r.spot;
-        best = placement::lower_spot(best, found);
-        i += 1;
+        best = placement::lower_spot(best, r.spot);
     }
     Search { spot: best, jumps }
 }
@@ -119,7 +114,7 @@ fn place<'a>(
     w: Want,
 ) -> Search
     requires { Indexed n ix.now (records_of ws.now) }
-    ensures { (0 < s → result.spot ≡ spot_of (place_of w.alignment w.length w.low
+    ensures { (0 < s → result.spot ≡ (place_of w.alignment w.length w.low
         (blocked_in (objects_in h.now) (records_of ws.now) s) (allowed allow)))
         × (result.jumps ≤ windows_of (allowed allow) * length (blocked_in (objects_in h.now) (records_of ws.now) s)) }
 {
@@ -160,8 +155,7 @@ fn automatic_place<'a>(
         low: LOWEST_TRIED,
     };
     let found = place(h, ws, ix, n, s, allow, w);
-    let spot = found.spot;
-    placing_of(spot)
+    placing_of(found.spot)
 }
 
 // The place of a target with a fixed address. `reserved` and `mapped` tell what the range asked touches.
@@ -170,9 +164,8 @@ pub fn place_fixed(a: u64, t: Target, reserved: bool, mapped: bool) -> Placing
         → reserved ≡ any (share (span t.address t.length)) (reserved_of os t.space)
         → mapped ≡ taken ms t.space t.length t.address → Placed os ms t result }
 {
-    let errno = fixed_errno(a, t.length, t.address, reserved, mapped);
     Placing {
-        errno,
+        errno: fixed_errno(a, t.length, t.address, reserved, mapped),
         address: t.address,
     }
 }

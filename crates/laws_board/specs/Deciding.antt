@@ -1,6 +1,5 @@
 -- What a call has shown of the change that it decides, for any table, good or not: what is refused changes nothing. So every change is one that the index follows.
-use Rattle.std.specs.Prelude.{ℕ, zero, suc, ◌-◌, ◌≤◌, ◌<◌, ◌≡◌, refl, true, false, List, ◌++◌, leb, length, get_or}
-use Rattle.std.proofs.Math.Option.{Option, none, some}
+use Rattle.std.specs.Prelude.{ℕ, zero, suc, ◌-◌, ◌≤◌, ◌<◌, ◌≡◌, refl, true, false, List, ◌++◌, leb, length, get_or, Option, None, Some}
 use Rattle.std.proofs.Common.{arith, le-leb}
 use Rattle.lists.specs.Tests.{and_both}
 use Rattle.lists.specs.Search.{any}
@@ -17,8 +16,6 @@ use Rattle.rules_table.specs.Records.{object_at, home_of, new_space, zero_mappin
 use Rattle.rules_table.specs.Charge.{free_mapping, free_record, free_backing}
 use Rattle.rules_calls.specs.declared.Command.{Command}
 use Rattle.rules_calls.specs.declared.Command.TheVariants.{Destroy, IoasAlloc, AllowIovas, Copy, IovaRanges, Map, Unmap}
-use Rattle.rules_calls.specs.declared.Row.{Row}
-use Rattle.rules_calls.specs.declared.Row.TheVariants.{Unlisted, Listed}
 use Rattle.rules_calls.specs.declared.Change.{Change}
 use Rattle.rules_calls.specs.declared.Change.TheVariants as Changes
 use Rattle.rules_calls.specs.declared.Act.{Act}
@@ -74,8 +71,8 @@ sits-at m u e = and_both (used m) (leb m.address U64MAX) u (le-leb m.address U64
 
 mapped-shown : (t : Table) (g : Sound t) (m : Mapping) → used m ≡ true → passes m.address m.length ≡ false → any (touches m.space (extent m)) t.mappings ≡ false
     → (o : Option ℕ) → free_mapping t.mappings ≡ o → Shown t.mappings (mapped o m).change
-mapped-shown t g m u e a none f = tt
-mapped-shown t g m u e a (some i) f = let r = free-record t.objects t.mappings i g.records f in (r.0, r.1, sits-at m u e, a)
+mapped-shown t g m u e a None f = tt
+mapped-shown t g m u e a (Some i) f = let r = free-record t.objects t.mappings i g.records f in (r.0, r.1, sits-at m u e, a)
 
 found-ends : (b flags s memory n a : ℕ) → passes a n ≡ false → passes (found_of b flags s memory n a).address (found_of b flags s memory n a).length ≡ false
 unfolding found_of
@@ -120,8 +117,8 @@ unmap_shown t s a n =
 -- ---- every other change
 
 added-shown : (ms : List Mapping) (f : Option ℕ) (o : Object) → Shown ms (added f o).change
-added-shown ms none o = tt
-added-shown ms (some i) o = tt
+added-shown ms None o = tt
+added-shown ms (Some i) o = tt
 
 removal-shown : (ms : List Mapping) (k : Kind) (i : ℕ) → Shown ms (removal k i)
 removal-shown ms Free i = tt
@@ -141,9 +138,9 @@ command-shown IovaRanges t bytes area g = tt
 command-shown Map t bytes area g = map_shown t g (field 4 bytes 4) (field 4 bytes 8) (field 8 bytes 24) (field 8 bytes 32) (field 4 bytes 12) (field 8 bytes 16)
 command-shown Unmap t bytes area g = unmap_shown t (field 4 bytes 4) (field 8 bytes 8) (field 8 bytes 16)
 
-row-shown : (r : Row) (t : Table) (bytes area : List ℕ) → Sound t → Shown t.mappings (row_edit r t bytes area).change
-row-shown Unlisted t bytes area g = tt
-row-shown (Listed c size) t bytes area g = command-shown c t bytes area g
+row-shown : (r : Option Command) (t : Table) (bytes area : List ℕ) → Sound t → Shown t.mappings (row_edit r t bytes area).change
+row-shown None t bytes area g = tt
+row-shown (Some c) t bytes area g = command-shown c t bytes area g
 
 -- ---- host calls: they change objects alone
 
@@ -159,8 +156,8 @@ settle-alone zero e f = f
 settle-alone (suc n) e f = tt
 
 added-alone : (f : Option ℕ) (o : Object) → ObjectsAlone (added f o).change
-added-alone none o = tt
-added-alone (some i) o = tt
+added-alone None o = tt
+added-alone (Some i) o = tt
 
 act_alone : (t : Table) (o : Order) (k : Act) → ObjectsAlone (act_edit t o k).change
 unfolding bind_edit attach_edit detach_edit reach_of reach_by next_edit

@@ -1,8 +1,7 @@
 -- MAP, COPY and UNMAP keep a sound table sound, and change no mapping, list or device of another space.
-use Rattle.std.specs.Prelude.{ℕ, ◌≤◌, ◌≡◌, true, false}
+use Rattle.std.specs.Prelude.{ℕ, ◌≤◌, ◌≡◌, true, false, Option, None, Some}
 use Rattle.std.proofs.Math.Path.{refl}
 use Rattle.std.proofs.Common.{sym, ap, ◌∙◌, arith}
-use Rattle.std.proofs.Math.Option.{Option, none, some}
 use Rattle.lists.specs.Tests.{contrary}
 use Rattle.lists.specs.Search.{any}
 use Rattle.lists.specs.Update.{upd}
@@ -35,7 +34,7 @@ use Rattle.edits.specs.Numbers.{map_checks_at, map_edit_at, copy_checks_at, copy
 -- ---- MAP
 
 -- a mapping of a backing that none has goes into a free record
-module _ (t : Table) (g : Sound t) (i b flags s memory n x a : ℕ) (free : free_mapping t.mappings ≡ some i) (number : free_backing t.mappings ≡ some b)
+module _ (t : Table) (g : Sound t) (i b flags s memory n x a : ℕ) (free : free_mapping t.mappings ≡ Some i) (number : free_backing t.mappings ≡ Some b)
     (p : MapPassed t.limit t.objects t.mappings flags s memory n x) (l : Landed t.objects t.mappings s n a) where
   new_pages : mapping_pages (found_of b flags s memory n a) ≡ pages_touched memory n
   unfolding mapping_pages found_of
@@ -73,8 +72,8 @@ map_kept t flags s z memory n x g =
   where
     go : (o : Option ℕ) → free_mapping t.mappings ≡ o → MapPassed t.limit t.objects t.mappings flags s memory n x → Landed t.objects t.mappings s n (place_at t.objects t.mappings s (bit 0 flags) n x)
         → Sound (applied t (mapped o (found_of (number_in (free_backing t.mappings)) flags s memory n (place_at t.objects t.mappings s (bit 0 flags) n x))))
-    go none e p l = contrary true refl (sym (ap (λ (q : Option ℕ). is_none q) e) ∙ p.free)
-    go (some i) e p l =
+    go None e p l = contrary true refl (sym (ap (λ (q : Option ℕ). is_none q) e) ∙ p.free)
+    go (Some i) e p l =
         let w = free-backing t.objects t.mappings i g.counted g.records e in
         rw w.1 (founded-sound t g i w.0 flags s memory n x (place_at t.objects t.mappings s (bit 0 flags) n x) e w.1 p l)
 
@@ -82,8 +81,8 @@ map_kept t flags s z memory n x g =
 module _ (t : Table) (g : Sound t) (m : Mapping) (k : ℕ) (ne : m.space ≡ k → ⊥) where
   pub put_other : (o : Option ℕ) → free_mapping t.mappings ≡ o → Untouched k t (applied t (mapped o m))
   unfolding applied
-  put_other none e = untouched-same k t
-  put_other (some i) e = let r = free-record t.objects t.mappings i g.records e in map_untouched t i m r.0 r.1 k ne
+  put_other None e = untouched-same k t
+  put_other (Some i) e = let r = free-record t.objects t.mappings i g.records e in map_untouched t i m r.0 r.1 k ne
 
 pub map_other : (k : ℕ) (t : Table) (flags s z memory n x : ℕ) → Sound t → (s ≡ k → ⊥) → Untouched k t (applied t (map_edit_at t.limit t.objects t.mappings flags s z memory n x))
 unfolding map_edit founding found_of
@@ -92,7 +91,7 @@ map_other k t flags s z memory n x g ne =
 
 -- ---- COPY
 
-module _ (t : Table) (g : Sound t) (i : ℕ) (m : Mapping) (flags target source n x y a : ℕ) (free : free_mapping t.mappings ≡ some i)
+module _ (t : Table) (g : Sound t) (i : ℕ) (m : Mapping) (flags target source n x y a : ℕ) (free : free_mapping t.mappings ≡ Some i)
     (p : CopyPassed t.objects t.mappings flags target source n x y) (q : SourceIs t.objects g.info t.mappings source y n m)
     (right : bit 1 flags ≡ true → m.founder ≡ 1) (l : Landed t.objects t.mappings target n a) where
   old-backing : any (backs (copy_of m flags target n a).backing) t.mappings ≡ true
@@ -123,8 +122,8 @@ copy_kept t flags target source n x y g =
   where
     go : (o : Option ℕ) → free_mapping t.mappings ≡ o → CopyPassed t.objects t.mappings flags target source n x y → Landed t.objects t.mappings target n (place_at t.objects t.mappings target (bit 0 flags) n x)
         → Sound (applied t (mapped o (copy_of (source_mapping (source_of t.mappings source y n)) flags target n (place_at t.objects t.mappings target (bit 0 flags) n x))))
-    go none e p l = contrary true refl (sym (ap (λ (q : Option ℕ). is_none q) e) ∙ p.free)
-    go (some i) e p l =
+    go None e p l = contrary true refl (sym (ap (λ (q : Option ℕ). is_none q) e) ∙ p.free)
+    go (Some i) e p l =
         copied-sound t g i (source_mapping (source_of t.mappings source y n)) flags target source n x y (place_at t.objects t.mappings target (bit 0 flags) n x) e p
         (source_is t.objects g.info t.mappings g.records g.agree source y n p.source-space p.found-source) p.right l
 

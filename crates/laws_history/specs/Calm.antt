@@ -1,7 +1,6 @@
 -- Calls that leave every mapping and every space as they are: ALLOW_IOVAS, IOVA_RANGES, bind, attach and detach, accepted or refused.
-use Rattle.std.specs.Prelude.{ℕ, zero, suc, ◌-◌, ◌<◌, ◌≡◌, refl, true, false, List, eqb, set}
+use Rattle.std.specs.Prelude.{ℕ, zero, suc, ◌-◌, ◌<◌, ◌≡◌, refl, true, false, List, eqb, set, Option, None, Some}
 use Rattle.std.proofs.Common.{sym, ap, ◌∙◌, arith, eqb-true}
-use Rattle.std.proofs.Math.Option.{Option, none, some}
 use Rattle.std.proofs.Math.ListN as ListN
 use Rattle.std.proofs.lemmas.Bool.{eqb-false}
 use Rattle.lists.specs.Tests.{by-test}
@@ -57,8 +56,8 @@ unfolding applied
 added-calm t n e = go (free_record t.objects) refl
   where
     go : (o : Option ℕ) → free_record t.objects ≡ o → Calm t (applied t (added o n))
-    go none f = calm_same t
-    go (some i) f = let p = free-slot t.objects i f in put-calm t i n p.0 (e ∙ sym p.1)
+    go None f = calm_same t
+    go (Some i) f = let p = free-slot t.objects i f in put-calm t i n p.0 (e ∙ sym p.1)
 
 -- a device stays a device
 device-calm : (t : Table) (d : ℕ) (n : Object) → is_space n.kind ≡ false → is_device (object_at t.objects d).kind ≡ true → Calm t (applied t (accept 0 (Put (d - 1)) n))

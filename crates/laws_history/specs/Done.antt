@@ -1,7 +1,6 @@
 -- What an accepted MAP, COPY or UNMAP did, spelled out: which record, which mapping, which bytes.
-use Rattle.std.specs.Prelude.{ℕ, ◌≡◌, refl, true}
+use Rattle.std.specs.Prelude.{ℕ, ◌≡◌, refl, true, Option, None, Some}
 use Rattle.std.proofs.Common.{sym, ap, ◌∙◌}
-use Rattle.std.proofs.Math.Option.{Option, none, some}
 use Rattle.lists.specs.Tests.{contrary}
 use Rattle.lists.specs.Checks.{first}
 use Rattle.rules_table.specs.Flags.{bit}
@@ -27,8 +26,8 @@ pub record MapDone (t : Table) (flags s memory n x : ℕ) (e : Edit) : Type 0 wh
   pub slot : ℕ
   pub number : ℕ
   pub address : ℕ
-  pub free : free_mapping t.mappings ≡ some slot
-  pub unused : free_backing t.mappings ≡ some number
+  pub free : free_mapping t.mappings ≡ Some slot
+  pub unused : free_backing t.mappings ≡ Some number
   pub passed : MapPassed t.limit t.objects t.mappings flags s memory n x
   pub is : e ≡ accept address (Map slot (found_of number flags s memory n address)) free_object
 
@@ -43,8 +42,8 @@ map_done t flags s z memory n x g e =
   where
     go : MapPassed t.limit t.objects t.mappings flags s memory n x → (o : Option ℕ) → free_mapping t.mappings ≡ o
         → MapDone t flags s memory n x (mapped (free_mapping t.mappings) (founding t.objects t.mappings flags s memory n x))
-    go p none f = contrary true refl (sym (ap (λ (q : Option ℕ). is_none q) f) ∙ p.free)
-    go p (some i) f =
+    go p None f = contrary true refl (sym (ap (λ (q : Option ℕ). is_none q) f) ∙ p.free)
+    go p (Some i) f =
         let b = free-backing t.objects t.mappings i g.counted g.records f in
         record {
           slot = i;
@@ -56,7 +55,7 @@ map_done t flags s z memory n x g e =
           is = made b.0 b.1 i f;
         }
       where
-        made : (b : ℕ) → free_backing t.mappings ≡ some b → (i : ℕ) → free_mapping t.mappings ≡ some i
+        made : (b : ℕ) → free_backing t.mappings ≡ Some b → (i : ℕ) → free_mapping t.mappings ≡ Some i
             → mapped (free_mapping t.mappings) (founding t.objects t.mappings flags s memory n x)
             ≡ accept (place_at t.objects t.mappings s (bit 0 flags) n x) (Map i (found_of b flags s memory n (place_at t.objects t.mappings s (bit 0 flags) n x))) free_object
         made b eb i ei = rw (ei, eb)
@@ -67,8 +66,8 @@ pub record CopyDone (t : Table) (flags target source n x y : ℕ) (e : Edit) : T
   pub slot : ℕ
   pub address : ℕ
   pub from : Mapping
-  pub free : free_mapping t.mappings ≡ some slot
-  pub sought : source_of t.mappings source y n ≡ some from
+  pub free : free_mapping t.mappings ≡ Some slot
+  pub sought : source_of t.mappings source y n ≡ Some from
   pub passed : CopyPassed t.objects t.mappings flags target source n x y
   pub is : e ≡ accept address (Map slot (copy_of from flags target n address)) free_object
 
@@ -83,9 +82,9 @@ copy_done t flags target source n x y e =
   where
     go : CopyPassed t.objects t.mappings flags target source n x y → (o : Option ℕ) → free_mapping t.mappings ≡ o → (r : Option Mapping) → source_of t.mappings source y n ≡ r
         → CopyDone t flags target source n x y (mapped (free_mapping t.mappings) (copying t.objects t.mappings (source_mapping (source_of t.mappings source y n)) flags target n x))
-    go p none f r k = contrary true refl (sym (ap (λ (q : Option ℕ). is_none q) f) ∙ p.free)
-    go p (some i) f none k = contrary true refl (sym (ap (λ (q : Option Mapping). is_none q) k) ∙ p.found-source)
-    go p (some i) f (some m) k = record {
+    go p None f r k = contrary true refl (sym (ap (λ (q : Option ℕ). is_none q) f) ∙ p.free)
+    go p (Some i) f None k = contrary true refl (sym (ap (λ (q : Option Mapping). is_none q) k) ∙ p.found-source)
+    go p (Some i) f (Some m) k = record {
       slot = i;
       address = place_at t.objects t.mappings target (bit 0 flags) n x;
       from = m;

@@ -1,5 +1,5 @@
 -- Demand 3, whole: any fresh table, every sequence of the eleven calls, refused ones and unknown requests among them, whatever bytes and numbers each is lent.
-use Rattle.std.specs.Prelude.{ℕ, zero, suc, ◌≤◌, ◌<◌, ◌^◌, ◌≡◌, Bool, ◌&&◌, List, [], ◌∷◌, get_or, replicate}
+use Rattle.std.specs.Prelude.{ℕ, zero, suc, ◌≤◌, ◌<◌, ◌^◌, ◌≡◌, Bool, ◌&&◌, List, [], ◌∷◌, get_or, replicate, Option, Some, None}
 use Rattle.std.proofs.Math.Path.{refl}
 use Rattle.std.proofs.Common.{sym, ap, subst, ◌∙◌, arith}
 use Rattle.std.proofs.Math.Bool.{true, false}
@@ -10,8 +10,6 @@ use Rattle.lists.specs.Sums.{sum_of, sum_of-nil, sum_of-replicate}
 use Rattle.rangelists.specs.declared.Reserved.{Reserved}
 use Rattle.rules_calls.specs.declared.Command.{Command}
 use Rattle.rules_calls.specs.declared.Command.TheVariants as Named
-use Rattle.rules_calls.specs.declared.Row.{Row}
-use Rattle.rules_calls.specs.declared.Row.TheVariants.{Unlisted, Listed}
 use Rattle.rules_calls.specs.Requests.{number, lookup}
 use Rattle.rules_table.specs.declared.Object.{Object}
 use Rattle.rules_table.specs.declared.Mapping.{Mapping}
@@ -50,7 +48,7 @@ abbrev fed_by : Bool → Command → List ℕ → List ℕ → Ledger → Ledger
 fed_by true c bytes written l = command_fed c bytes written l
 fed_by false c bytes written l = tick l
 
-abbrev row_fed_by : Bool → Row → List ℕ → List ℕ → Ledger → Ledger
+abbrev row_fed_by : Bool → Option Command → List ℕ → List ℕ → Ledger → Ledger
 row_fed_by true r bytes written l = row_fed r bytes written l
 row_fed_by false r bytes written l = tick l
 
@@ -81,7 +79,7 @@ module _ (l : Ledger) (t : Table) (g : good t ≡ true) (q : Rel l t) (bytes are
   destroy_step false e = let k = below _ e in same-tick l t (destroy_answer t bytes).table q (destroy_refused t bytes k.0 k.1)
 
   -- what a call leaves, after the ledger was fed it by its row
-  abbrev Stepped : Bool → Row → Done → Type 0
+  abbrev Stepped : Bool → Option Command → Done → Type 0
   Stepped b r d = accepts d.answer.result ≡ b → Rel (row_fed_by b r bytes d.bytes l) d.answer.table
 
   -- each command at its own number
@@ -100,11 +98,11 @@ module _ (l : Ledger) (t : Table) (g : good t ≡ true) (q : Rel l t) (bytes are
   command-step Named.Map b e = map_step b e
   command-step Named.Unmap b e = unmap_step b e
 
-  row_step : (r : Row) (request : ℕ) → lookup request ≡ r → (b : Bool) → Stepped b r (row_done r t (call_edit t request bytes area) bytes area)
-  row_step Unlisted request f true e = same-tick l t _ q (unlisted-stays t request bytes area f)
-  row_step Unlisted request f false e = same-tick l t _ q (unlisted-stays t request bytes area f)
-  row_step (Listed c size) request f true e = subst (λ (n : ℕ). Stepped true (Listed c size) (at c n)) (row_number request c size f).0 (command-step c true) e
-  row_step (Listed c size) request f false e = subst (λ (n : ℕ). Stepped false (Listed c size) (at c n)) (row_number request c size f).0 (command-step c false) e
+  row_step : (r : Option Command) (request : ℕ) → lookup request ≡ r → (b : Bool) → Stepped b r (row_done r t (call_edit t request bytes area) bytes area)
+  row_step None request f true e = same-tick l t _ q (unlisted-stays t request bytes area f)
+  row_step None request f false e = same-tick l t _ q (unlisted-stays t request bytes area f)
+  row_step (Some c) request f true e = subst (λ (n : ℕ). Stepped true (Some c) (at c n)) (row_number request c f) (command-step c true) e
+  row_step (Some c) request f false e = subst (λ (n : ℕ). Stepped false (Some c) (at c n)) (row_number request c f) (command-step c false) e
 
   call_step : (request : ℕ) (b : Bool) → accepts (call_done t request bytes area).answer.result ≡ b → Rel (call_fed b (Call.Command request bytes area) (call_done t request bytes area).bytes l) (call_done t request bytes area).answer.table
   unfolding call_done
@@ -155,9 +153,9 @@ module _ (t : Table) (bytes area : List ℕ) (g : good t ≡ true) where
   command-good Named.Map = map_good t g bytes
   command-good Named.Unmap = unmap_good t g bytes
 
-  row-good : (r : Row) (request : ℕ) → lookup request ≡ r → good (left request) ≡ true
-  row-good Unlisted request f = rw (unlisted-stays t request bytes area f) g
-  row-good (Listed c size) request f = subst (λ (n : ℕ). good (left n) ≡ true) (row_number request c size f).0 (command-good c)
+  row-good : (r : Option Command) (request : ℕ) → lookup request ≡ r → good (left request) ≡ true
+  row-good None request f = rw (unlisted-stays t request bytes area f) g
+  row-good (Some c) request f = subst (λ (n : ℕ). good (left n) ≡ true) (row_number request c f) (command-good c)
 
 pub step-good : (c : Call) (t : Table) → good t ≡ true → good (table_after c t) ≡ true
 step-good (Call.Command request bytes area) t g = subst (λ (a : Answer). good a.table ≡ true) (sym (call-edit t request bytes area)) (row-good t bytes area g (lookup request) request refl)

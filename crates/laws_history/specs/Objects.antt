@@ -1,11 +1,10 @@
 -- IOAS_ALLOC and DESTROY: what the ledger is fed keeps it in step with the table.
 use Prim.Native.Nat.{ℕ, suc, ◌+◌, ◌-◌, ◌<◌, ◌^◌}
-use Rattle.std.specs.Prelude.{◌≡◌, Bool, pos}
+use Rattle.std.specs.Prelude.{◌≡◌, Bool, pos, Option, None, Some}
 use Rattle.std.proofs.Math.Path.{refl, ap}
 use Rattle.std.proofs.Common.{sym, ◌∙◌, add-one}
 use Rattle.std.proofs.Math.Bool.{true, false, cond}
 use mathlib.Core.List.{List, [], ◌∷◌, map}
-use Rattle.std.proofs.Math.Option.{Option, none, some}
 use native.Mathlib.Omega.{arith}
 use Rattle.std.proofs.Math.Dec.{eqb}
 use Rattle.std.proofs.Math.ListN as ListN
@@ -73,7 +72,7 @@ none-bytes s ms h = sum_of-cong (λ m. only_if (of_space s m) m.length) (λ m. 0
 -- which record it took
 pub record Allotted (t : Table) (bytes : List ℕ) : Type 0 where
   pub slot : ℕ
-  pub free : free_record t.objects ≡ some slot
+  pub free : free_record t.objects ≡ Some slot
   pub after : (alloc_answer t bytes).table ≡ put_object t slot new_space
   pub told : (alloc_call t bytes).value ≡ suc slot
   pub errno : (alloc_call t bytes).errno ≡ 0
@@ -87,8 +86,8 @@ alloc-done t bytes ok =
     go a c (free_record t.objects) refl
   where
     go : Accepted t 0x3B81 bytes (alloc_edit t.objects (field 4 bytes 4)) → first (alloc_checks t.objects (field 4 bytes 4)) 0 ≡ 0 → (o : Option ℕ) → free_record t.objects ≡ o → Allotted t bytes
-    go a c none f = absurd (omega (arith, sym (ap (λ (n : ℕ). (settle n (added (free_record t.objects) new_space)).errno) c ∙ ap (λ (o : Option ℕ). (added o new_space).errno) f) ∙ a.errno))
-    go a c (some i) f =
+    go a c None f = absurd (omega (arith, sym (ap (λ (n : ℕ). (settle n (added (free_record t.objects) new_space)).errno) c ∙ ap (λ (o : Option ℕ). (added o new_space).errno) f) ∙ a.errno))
+    go a c (Some i) f =
         let is : settle (gate_errno t 0x3B81 bytes) (alloc_edit t.objects (field 4 bytes 4)) ≡ accept (i + 1) (Put i) new_space
         = a.same ∙ ap (λ (n : ℕ). settle n (added (free_record t.objects) new_space)) c ∙ ap (λ (o : Option ℕ). added o new_space) f in
         record {
@@ -109,7 +108,7 @@ alloc-id t bytes d h =
 
 module _ (l : Ledger) (t : Table) (g : Sound t) (q : Rel l t) where
   -- a space in a free record: it has no bytes yet
-  space-made : (i : ℕ) (written : List ℕ) → free_record t.objects ≡ some i → field 4 written 8 ≡ suc i → Rel (with_space written l) (put_object t i new_space)
+  space-made : (i : ℕ) (written : List ℕ) → free_record t.objects ≡ Some i → field 4 written 8 ≡ suc i → Rel (with_space written l) (put_object t i new_space)
   unfolding applied
   space-made i written f w =
       let p = free-slot t.objects i f in

@@ -1,10 +1,9 @@
 -- The source of a COPY: the entry that the ledger finds is the mapping that the table finds. At most one mapping of a good table has that space, address and length, so every
 -- entry that the ledger could find is that one.
-use Rattle.std.specs.Prelude.{ℕ, ◌+◌, ◌≤◌, ◌≡◌, refl, Bool, true, ◌&&◌}
+use Rattle.std.specs.Prelude.{ℕ, ◌+◌, ◌≤◌, ◌≡◌, refl, Bool, true, ◌&&◌, Some}
 use Rattle.std.proofs.Common.{sym, ◌∙◌, arith}
 use Rattle.std.proofs.Math.Path.{ap}
 use Rattle.std.proofs.Math.Bool.{false, not}
-use Rattle.std.proofs.Math.Option.{some}
 use Rattle.std.proofs.Math.Dec.{eqb}
 use borrow.Author.Tests.{eqb-true, eq-eqb, lt-ltb, not-false}
 use Rattle.lists.specs.Tests.{by-test, contrary, only_if, only_if-mono, and_left, and_right, and_both}
@@ -50,7 +49,7 @@ starts-here : (x : Mapping) (a : ℕ) → x.address ≡ a → x.address ≤ U64M
 unfolding span
 starts-here x a b f = holds_of (span x.address x.length) a (omega (arith, b)) (omega (arith, b, span-some x.address x.length f))
 
-module _ (l : Ledger) (t : Table) (q : Rel l t) (g : Sound t) (s a n : ℕ) (m : Mapping) (at : source_of t.mappings s a n ≡ some m) (u : used m ≡ true) where
+module _ (l : Ledger) (t : Table) (q : Rel l t) (g : Sound t) (s a n : ℕ) (m : Mapping) (at : source_of t.mappings s a n ≡ Some m) (u : used m ≡ true) where
   -- an entry of that space, address and length, and one that is not m's
   is_one : Entry → Bool
   is_one e = entry_is s a n e

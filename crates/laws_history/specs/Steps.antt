@@ -1,9 +1,8 @@
 -- Every call: what the ledger is fed keeps it in step with the table.
-use Rattle.std.specs.Prelude.{ℕ, zero, suc, ◌+◌, ◌<◌, ◌≡◌, Bool, false, ◌&&◌, cond, List, map, eqb, pos, negsuc, get_or}
+use Rattle.std.specs.Prelude.{ℕ, zero, suc, ◌+◌, ◌<◌, ◌≡◌, Bool, false, ◌&&◌, cond, List, map, eqb, pos, negsuc, get_or, Some}
 use Rattle.std.proofs.Math.Path.{refl, ap}
 use Rattle.std.proofs.Common.{sym, ◌∙◌, arith, eqb-true, ne_eqb}
 use Rattle.std.proofs.Math.Bool.{true}
-use Rattle.std.proofs.Math.Option.{some}
 use Rattle.std.proofs.Math.ListN as ListN
 use Rattle.std.proofs.lemmas.Bool.{eqb-false}
 use Rattle.lists.specs.Tests.{by-test, contrary, and_left, and_right, and_both}
@@ -101,7 +100,7 @@ module _ (t : Table) (bytes : List ℕ) where
   copy_after a d = ap (applied t) (a.same ∙ d.is)
 
 -- the source's backing is had
-source-had : (ms : List Mapping) (s y n : ℕ) (m : Mapping) → source_of ms s y n ≡ some m → used m ≡ true → had m.backing ms ≡ true
+source-had : (ms : List Mapping) (s y n : ℕ) (m : Mapping) → source_of ms s y n ≡ Some m → used m ≡ true → had m.backing ms ≡ true
 unfolding had source_of
 source-had ms s y n m e u =
     by-test (any (λ x. used x && backs m.backing x) ms) (λ v. v)
@@ -186,8 +185,8 @@ module _ (l : Ledger) (t : Table) (q : Rel l t) (p : Mapping → Bool) (s : ℕ)
       go : (b : Bool) → eqb z s ≡ b → l.accepted z ≡ cond b (l.removed s + n) (l.removed z) + bytes_in z (map (release p) t.mappings)
       go true f =
           let es : z ≡ s = eqb-true z s f in
-          let some : s ≡ 0 → ⊥ = λ y. live-some l t q z v (es ∙ y) in
-          rw es (omega (arith, bytes-own p s t.mappings some own, q.bytes s (rw (← es) v), e))
+          let Some : s ≡ 0 → ⊥ = λ y. live-some l t q z v (es ∙ y) in
+          rw es (omega (arith, bytes-own p s t.mappings Some own, q.bytes s (rw (← es) v), e))
       go false f = omega (arith, bytes-other p z t.mappings (live-some l t q z v) (λ m y. two-spaces s z m (eqb-false z s f) (own m y)), q.bytes z v)
 
 module _ (l : Ledger) (t : Table) (q : Rel l t) (bytes : List ℕ) where

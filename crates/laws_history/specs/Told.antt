@@ -1,8 +1,7 @@
 -- What demand 3 claims of a ledger and a table, and that it follows where the two agree and the table is sound.
-use Rattle.std.specs.Prelude.{ℕ, ◌+◌, ◌-◌, ◌^◌, ◌≤◌, ◌<◌, ◌≡◌, refl, Bool, false, ◌&&◌, List, ltb}
+use Rattle.std.specs.Prelude.{ℕ, ◌+◌, ◌-◌, ◌^◌, ◌≤◌, ◌<◌, ◌≡◌, refl, Bool, false, ◌&&◌, List, ltb, None}
 use Rattle.std.proofs.Math.Path.{sym, ap}
 use Rattle.std.proofs.Common.{◌∙◌, add-one, arith}
-use Rattle.std.proofs.Math.Option.{none}
 use Rattle.std.proofs.Math.Bool.{true}
 use Rattle.std.proofs.Math.Dec.{eqb}
 use Rattle.std.proofs.Math.ListN as ListN
@@ -134,15 +133,15 @@ module _ (l : Ledger) (t : Table) (g : Sound t) (q : Rel l t) where
           (λ j h. only_if-false (founded m.number (j + 1)) m.pages (by-test (founded m.number (j + 1)) (λ y. absurd (miss j y)) (λ y. y)))
           ∙ sum_below-zero 128
         where
-          none : Each (λ x. used x ≡ true → q.who x.backing ≡ m.number → ⊥) t.mappings
-          none =
+          unseen : Each (λ x. used x ≡ true → q.who x.backing ≡ m.number → ⊥) t.mappings
+          unseen =
               Each-imp (λ x. (used x && eqb (q.who x.backing) m.number) ≡ false) (λ x. used x ≡ true → q.who x.backing ≡ m.number → ⊥) t.mappings
               (λ x f u s. contrary (used x && eqb (q.who x.backing) m.number) (and_both (used x) (eqb (q.who x.backing) m.number) u (eq-eqb (q.who x.backing) m.number s)) f)
               (Each-any_false (λ x. used x && eqb (q.who x.backing) m.number) t.mappings e)
 
           miss : (j : ℕ) → founded m.number (j + 1) ≡ true → ⊥
           miss j y =
-              had-of (λ b. q.who b ≡ m.number → ⊥) t.mappings (j + 1) none (and_left (had (j + 1) t.mappings) (eqb m.number (q.who (j + 1))) y)
+              had-of (λ b. q.who b ≡ m.number → ⊥) t.mappings (j + 1) unseen (and_left (had (j + 1) t.mappings) (eqb m.number (q.who (j + 1))) y)
               (sym (eqb-true m.number (q.who (j + 1)) (and_right (had (j + 1) t.mappings) (eqb m.number (q.who (j + 1))) y)))
 
   -- the pages of a backing that is had are those of the map that founded it

@@ -1,10 +1,9 @@
 -- The searches of reach and of placement find the same whatever the records that are not listed hold (L9): what they find is told by the listed records alone, of any records that
 -- agree with the table's on what its index lists.
-use Rattle.std.specs.Prelude.{ℕ, ◌≤◌, ◌<◌, ◌≡◌, true}
+use Rattle.std.specs.Prelude.{ℕ, ◌≤◌, ◌<◌, ◌≡◌, true, Option}
 use Rattle.std.proofs.Math.Path.{ap}
 use Rattle.std.proofs.Common.{◌∙◌}
 use mathlib.Core.List.{List}
-use Rattle.std.proofs.Math.Option.{Option}
 use Rattle.lists.specs.Each.{Each}
 use Rattle.ranges.specs.declared.Range.{Range}
 use Rattle.rangelists.specs.Listed.{allowed}

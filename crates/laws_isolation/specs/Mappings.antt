@@ -1,7 +1,6 @@
 -- Lists of records whose mappings of space s weigh the same: a test of some mapping of the space holds in both or in neither, and as many bytes go.
-use Rattle.std.specs.Prelude.{ℕ, ◌≡◌, refl, Bool, true, false, not, ◌&&◌, List, ltb}
+use Rattle.std.specs.Prelude.{ℕ, ◌≡◌, refl, Bool, true, false, not, ◌&&◌, List, ltb, Option, None, Some}
 use Rattle.std.proofs.Common.{sym, ap, ◌∙◌, arith}
-use Rattle.std.proofs.Math.Option.{Option, none, some}
 use Rattle.lists.specs.Tests.{only_if, only_if-and}
 use Rattle.lists.specs.Search.{any, any-cong, seek, seek-none, seek-any_false}
 use Rattle.lists.specs.Each.{Each-of}
@@ -75,9 +74,9 @@ unfolding free_mapping
 found-free ms = go (seek (λ m. not (used m)) 0 ms) (any (λ m. not (used m)) ms) refl refl
   where
     go : (o : Option ℕ) (b : Bool) → seek (λ m. not (used m)) 0 ms ≡ o → any (λ m. not (used m)) ms ≡ b → is_none o ≡ not (any (λ m. not (used m)) ms)
-    go none b e f = sym (ap (λ (x : Bool). not x) (seek-none (λ m. not (used m)) 0 ms e))
-    go (some n) true e f = sym (ap (λ (x : Bool). not x) f)
-    go (some n) false e f = let g = seek-any_false (λ m. not (used m)) 0 ms f in let z : ◌≡◌ {A = ℕ} 0 1 = cc in absurd (omega arith)
+    go None b e f = sym (ap (λ (x : Bool). not x) (seek-none (λ m. not (used m)) 0 ms e))
+    go (Some n) true e f = sym (ap (λ (x : Bool). not x) f)
+    go (Some n) false e f = let g = seek-any_false (λ m. not (used m)) 0 ms f in let z : ◌≡◌ {A = ℕ} 0 1 = cc in absurd (omega arith)
 
 pub free-alike : (ms ns : List Mapping) → count_of (λ m. not (used m)) ms ≡ count_of (λ m. not (used m)) ns → is_none (free_mapping ms) ≡ is_none (free_mapping ns)
 free-alike ms ns h =

@@ -6,7 +6,7 @@ use Rattle.std.proofs.Math.Bool.{true, false}
 use Rattle.lists.specs.Search.{any}
 use Rattle.ranges.specs.declared.Range.{Range}
 use Rattle.ranges.specs.Ranges.{share, span}
-use Rattle.alignment.specs.Multiples.{multiple, lowest-one, spot_of}
+use Rattle.alignment.specs.Multiples.{multiple, lowest-unique}
 use Rattle.placement.specs.Candidates.{permits}
 use Rattle.rules_table.specs.declared.Table.{Table}
 use Rattle.rules_table.specs.Records.{touches}
@@ -57,9 +57,9 @@ module _ (s : ℕ) (t u : Table) (a : Alike s t u) where
 -- THE LAW: one automatic place
 pub automatic-alike : (s : ℕ) (t u : Table) → Alike s t u → (n : ℕ) → automatic t.objects t.mappings s n ≡ automatic u.objects u.mappings s n
 automatic-alike s t u a n =
-    lowest-one (CandidateIn u.objects u.mappings s n) (automatic t.objects t.mappings s n) (automatic u.objects u.mappings s n)
+    lowest-unique (CandidateIn u.objects u.mappings s n) (automatic t.objects t.mappings s n) (automatic u.objects u.mappings s n)
     (lowest-same (CandidateIn t.objects t.mappings s n) (CandidateIn u.objects u.mappings s n) (candidate_alike s t u a n) (candidate_alike s u t (turned s t u a) n)
-    (spot_of (automatic t.objects t.mappings s n)) (automatic-lowest t.objects t.mappings s n))
+    (automatic t.objects t.mappings s n) (automatic-lowest t.objects t.mappings s n))
     (automatic-lowest u.objects u.mappings s n)
 
 module _ (s : ℕ) (t u : Table) (a : Alike s t u) (n x : ℕ) where

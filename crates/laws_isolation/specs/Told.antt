@@ -1,7 +1,6 @@
 -- Edits that tell the caller the same, errno and number: so do the results and the bytes that come of them. What they do to the table may differ.
-use Rattle.std.specs.Prelude.{ℕ, zero, suc, ◌≡◌, refl, Bool, true, false, cond, List}
+use Rattle.std.specs.Prelude.{ℕ, zero, suc, ◌≡◌, refl, Bool, true, false, cond, List, Option, None, Some}
 use Rattle.std.proofs.Common.{sym, ap, ◌∙◌}
-use Rattle.std.proofs.Math.Option.{Option, none, some}
 use Rattle.lists.specs.Tests.{contrary}
 use Rattle.rules_calls.specs.Opening.{opened, opening_errno}
 use Rattle.rules_calls.specs.Results.{signed_result}
@@ -28,10 +27,10 @@ settle-alike n k e f s h = rw s (settle-one k e f h)
 
 -- a new mapping tells its address, whatever its record and backing number
 pub mapped-alike : (i k : Option ℕ) (m n : Mapping) → is_none i ≡ is_none k → m.address ≡ n.address → TellAlike (mapped i m) (mapped k n)
-mapped-alike none none m n e h = record { errno = refl; value = refl }
-mapped-alike none (some k) m n e h = contrary true refl e
-mapped-alike (some i) none m n e h = contrary false e refl
-mapped-alike (some i) (some k) m n e h = record { errno = refl; value = h }
+mapped-alike None None m n e h = record { errno = refl; value = refl }
+mapped-alike None (Some k) m n e h = contrary true refl e
+mapped-alike (Some i) None m n e h = contrary false e refl
+mapped-alike (Some i) (Some k) m n e h = record { errno = refl; value = h }
 
 -- the gate of a good table asks the bytes alone
 pub gate-alike : (t u : Table) (request : ℕ) (bytes : List ℕ) → good t ≡ true → good u ≡ true → gate_errno t request bytes ≡ gate_errno u request bytes

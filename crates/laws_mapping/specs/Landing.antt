@@ -1,7 +1,6 @@
 -- Where an accepted MAP or COPY lands: the address that is told is the lowest candidate or the one asked, and no address of the new mapping was mapped in its space.
-use Rattle.std.specs.Prelude.{ℕ, ◌≤◌, ◌<◌, ◌≡◌, refl, Bool, true, false, ◌&&◌, List, get_or}
+use Rattle.std.specs.Prelude.{ℕ, ◌≤◌, ◌<◌, ◌≡◌, refl, Bool, true, false, ◌&&◌, List, get_or, Option, None, Some}
 use Rattle.std.proofs.Common.{◌∙◌}
-use Rattle.std.proofs.Math.Option.{Option, none, some}
 use Rattle.std.proofs.Math.ListN as ListN
 use Rattle.lists.specs.Tests.{by-test, contrary, and_left, and_right, and_both}
 use Rattle.lists.specs.Search.{any-false_at}
@@ -48,8 +47,8 @@ landed-uncovered os ms s n x a i l h k =
 
 -- the number that a new mapping's edit tells is its address
 told : (o : Option ℕ) (m : Mapping) → is_none o ≡ false → (mapped o m).value ≡ m.address
-told none m e = contrary true refl e
-told (some i) m e = refl
+told None m e = contrary true refl e
+told (Some i) m e = refl
 
 settled-value : (n : ℕ) (e : Edit) → n ≡ 0 → (settle n e).value ≡ e.value
 settled-value n e h = rw h

@@ -1,8 +1,7 @@
 -- The mapping that MAP or COPY makes keeps every rule of a mapping, and takes a released record.
-use Rattle.std.specs.Prelude.{ℕ, ◌+◌, ◌≤◌, ◌<◌, ◌≡◌, refl, Bool, false, ◌&&◌, ◌||◌, List, [], ◌∷◌, get_or}
+use Rattle.std.specs.Prelude.{ℕ, ◌+◌, ◌≤◌, ◌<◌, ◌≡◌, refl, Bool, false, ◌&&◌, ◌||◌, List, [], ◌∷◌, get_or, Option, None, Some}
 use Rattle.std.proofs.Common.{sym, ap, subst, ◌∙◌, arith}
 use Rattle.std.proofs.Math.Bool.{true, not}
-use Rattle.std.proofs.Math.Option.{Option, none, some}
 use Rattle.std.proofs.Math.Dec.{eqb}
 use Rattle.std.proofs.Math.ListN as ListN
 use borrow.Author.Tests.{eqb-true, ne_eqb, not-true}
@@ -31,17 +30,17 @@ use Rattle.rules_calls.specs.Edits.{is_none}
 -- ---- the record and the backing number that a new mapping takes
 
 -- the lowest free record lies in the table and is all zero
-pub free-record : (os : List Object) (ms : List Mapping) (i : ℕ) → Each (λ m. record_ok os m ≡ true) ms → free_mapping ms ≡ some i → (i < ListN.length ms) × (get_or ms i zero_mapping ≡ zero_mapping)
+pub free-record : (os : List Object) (ms : List Mapping) (i : ℕ) → Each (λ m. record_ok os m ≡ true) ms → free_mapping ms ≡ Some i → (i < ListN.length ms) × (get_or ms i zero_mapping ≡ zero_mapping)
 unfolding free_mapping
 free-record os ms i ok e =
     let lt = seek-some_lt (λ m. not (used m)) 0 ms i e in
     let z : i ≡ 0 + i = omega arith in
-    let at = seek-some_at (λ m. not (used m)) 0 ms zero_mapping i (e ∙ ap some z) in
+    let at = seek-some_at (λ m. not (used m)) 0 ms zero_mapping i (e ∙ ap Some z) in
     let h : i < ListN.length ms = omega (arith, lt.1) in
     (h, record_free os (get_or ms i zero_mapping) (not-true (used (get_or ms i zero_mapping)) at) (Each-at (λ m. record_ok os m ≡ true) ms zero_mapping i h ok))
 
 -- the lowest free backing number is from 1 to 128, and no mapping has it
-pub free-number : (ms : List Mapping) (b : ℕ) → free_backing ms ≡ some b → (1 ≤ b) × (b ≤ 128) × (any (backs b) ms ≡ false)
+pub free-number : (ms : List Mapping) (b : ℕ) → free_backing ms ≡ Some b → (1 ≤ b) × (b ≤ 128) × (any (backs b) ms ≡ false)
 unfolding free_backing
 free-number ms b e = let l = lowest-some (λ k. not (any (backs k) ms)) 128 1 b e in (l.from, omega (arith, l.upto), not-true (any (backs b) ms) l.passes)
 
@@ -109,7 +108,7 @@ module _ (os : List Object) (ms : List Mapping) (b flags s memory n a : ℕ) whe
 -- ---- COPY
 
 -- what is found of a list has what each element has
-pub find-each : {A : Type 0} (P : A → Type 0) (p : A → Bool) (xs : List A) (a : A) → Each P xs → find p xs ≡ some a → P a
+pub find-each : {A : Type 0} (P : A → Type 0) (p : A → Bool) (xs : List A) (a : A) → Each P xs → find p xs ≡ Some a → P a
 unfolding find
 find-each P p [] a h e = let z : ◌≡◌ {A = ℕ} 0 1 = cc in absurd (omega arith)
 find-each P p (x ∷ xs) a h e =
@@ -127,7 +126,7 @@ pub record SourceIs (os : List Object) (info : ℕ → Backing) (ms : List Mappi
   pub backed : any (backs m.backing) ms ≡ true
 
 module _ (os : List Object) (info : ℕ → Backing) (ms : List Mapping) (ok : Each (λ m. record_ok os m ≡ true) ms) (agree : Agree info ms) (source y n : ℕ) (sp : space_at os source ≡ true) where
-  pub source-of : (m : Mapping) → source_of ms source y n ≡ some m → SourceIs os info ms source y n m
+  pub source-of : (m : Mapping) → source_of ms source y n ≡ Some m → SourceIs os info ms source y n m
   unfolding source_of is_source of_space used
   source-of m e =
       let t = find-some (is_source source y n) ms m e in
@@ -147,8 +146,8 @@ module _ (os : List Object) (info : ℕ → Backing) (ms : List Mapping) (ok : E
   source_is e = go (source_of ms source y n) refl e
     where
       go : (o : Option Mapping) → source_of ms source y n ≡ o → is_none o ≡ false → SourceIs os info ms source y n (source_mapping o)
-      go none f g = contrary true refl g
-      go (some m) f g = source-of m f
+      go None f g = contrary true refl g
+      go (Some m) f g = source-of m f
 
 module _ (os : List Object) (ms : List Mapping) (m : Mapping) (flags target n a : ℕ) where
   pub copy_used : space_at os target ≡ true → used (copy_of m flags target n a) ≡ true

@@ -1,8 +1,7 @@
 -- 28 is answered exactly if there is no candidate, once the checks before it have passed.
-use Rattle.std.specs.Prelude.{ℕ, zero, suc, ◌≡◌, refl, true, false}
+use Rattle.std.specs.Prelude.{ℕ, zero, suc, ◌≡◌, refl, true, false, Option, None, Some}
 use Rattle.std.proofs.Math.Path.{sym}
 use Rattle.std.proofs.Common.{ap, ◌∙◌, arith}
-use Rattle.std.proofs.Math.Option.{Option, none, some}
 use mathlib.Core.List.{List, ◌++◌}
 use Rattle.lists.specs.Each.{Each}
 use Rattle.lists.specs.Checks.{Check, first, first-append, first-each, first-stays, first_goes, Refusals}
@@ -51,8 +50,8 @@ module _ (os : List Object) (ms : List Mapping) (s n : ℕ) (cs ds : List (Check
 
 -- an edit that puts a new mapping answers 28 exactly if its checks do
 settled-28 : (k : ℕ) (f : Option ℕ) (m : Mapping) → (settle k (mapped f m)).errno ≡ 28 → k ≡ 28
-settled-28 zero none m e = absurd (omega (arith, e))
-settled-28 zero (some i) m e = absurd (omega (arith, e))
+settled-28 zero None m e = absurd (omega (arith, e))
+settled-28 zero (Some i) m e = absurd (omega (arith, e))
 settled-28 (suc k) f m e = e
 
 told-28 : (k : ℕ) (e : Edit) → k ≡ 28 → (settle k e).errno ≡ 28

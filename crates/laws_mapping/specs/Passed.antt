@@ -1,8 +1,7 @@
 -- What the checks of an accepted MAP, COPY or UNMAP have shown, in the form that proofs want.
 use Prim.Native.Nat.{ℕ, zero, suc, ◌+◌, ◌≤◌, ◌<◌, ◌^◌}
-use Rattle.std.specs.Prelude.{◌≡◌, refl, Bool, true, ◌&&◌, ◌||◌, List, ◌++◌, ltb, get_or}
+use Rattle.std.specs.Prelude.{◌≡◌, refl, Bool, true, ◌&&◌, ◌||◌, List, ◌++◌, ltb, get_or, None, Some}
 use Rattle.std.proofs.Common.{sym, ◌∙◌, arith}
-use Rattle.std.proofs.Math.Option.{none, some}
 use Rattle.std.proofs.Math.Bool.{false, not}
 use Rattle.std.proofs.Math.Dec.{eqb}
 use borrow.Author.Tests.{eqb-true, eqb-false, ltb-false, not-false}
@@ -180,11 +179,11 @@ module _ (os : List Object) (ms : List Mapping) (s a n : ℕ) where
       let p = both-passed (unmap_number_checks_at os s a n) (removal_checks ms s a n) unmap_numbers_refuse e in
       let zero : eqb n 0 ≡ false = passed (unmap_number_checks_at os s a n) 0 (when false 0) unmap_numbers_refuse p.0 0 (omega arith) in
       let ne = eqb-false n 0 zero in
-      let none : (not (asks_all a n) && not (any (within s (range_asked a n)) ms)) ≡ false = passed (removal_checks ms s a n) 0 (when false 0) removal-refuse p.1 1 (omega arith) in
+      let None : (not (asks_all a n) && not (any (within s (range_asked a n)) ms)) ≡ false = passed (removal_checks ms s a n) 0 (when false 0) removal-refuse p.1 1 (omega arith) in
       record {
         some = omega (arith, ne);
         ends = passed (unmap_number_checks_at os s a n) 0 (when false 0) unmap_numbers_refuse p.0 1 (omega arith);
         space = not-false (space_at os s) (passed (unmap_number_checks_at os s a n) 0 (when false 0) unmap_numbers_refuse p.0 2 (omega arith));
         uncut = passed (removal_checks ms s a n) 0 (when false 0) removal-refuse p.1 0 (omega arith);
-        inside = λ b. not-false (any (within s (range_asked a n)) ms) (sym (rw b) ∙ none);
+        inside = λ b. not-false (any (within s (range_asked a n)) ms) (sym (rw b) ∙ None);
       }

@@ -1,8 +1,7 @@
 -- In a good table reach's search finds the mapping that holds what is asked, and finds none exactly where none holds it.
-use Rattle.std.specs.Prelude.{ℕ, ◌+◌, ◌-◌, ◌≤◌, ◌<◌, ◌≡◌, refl, true, false, ◌&&◌, leb, length}
+use Rattle.std.specs.Prelude.{ℕ, ◌+◌, ◌-◌, ◌≤◌, ◌<◌, ◌≡◌, refl, true, false, ◌&&◌, leb, length, None, Some}
 use Rattle.std.proofs.Common.{sym, ◌∙◌, arith}
 use Rattle.std.proofs.Math.Path.{ap, subst}
-use Rattle.std.proofs.Math.Option.{none, some}
 use Rattle.std.proofs.Math.ListN.{get_or}
 use borrow.Author.Tests.{eqb-true, eq-eqb, ne_eqb, le-leb, le-ltb}
 use Rattle.lists.specs.Tests.{by-test, and_left, and_right, and_both}
@@ -98,20 +97,20 @@ module _ (t : Table) (g : Sound t) (d s a n : ℕ) (q : Asked t d s a n) where
   -- ---- the search
 
   -- THE LAWS: the mapping that holds it is found, and what is found holds it
-  pub held_found : (m : Mapping) → Holding t s a n m → around t.mappings s (span a n) ≡ some m
+  pub held_found : (m : Mapping) → Holding t s a n m → around t.mappings s (span a n) ≡ Some m
   unfolding around wraps
   held_found m h =
       let e = h.stands in
-      find-only (wraps s (span a n)) (covers s a) test_covers t.mappings zero_mapping (g.once s a) h.slot h.there (ap (wraps s (span a n)) e ∙ held_test m h) ∙ ap some e
+      find-only (wraps s (span a n)) (covers s a) test_covers t.mappings zero_mapping (g.once s a) h.slot h.there (ap (wraps s (span a n)) e ∙ held_test m h) ∙ ap Some e
 
-  pub found-held : (m : Mapping) → around t.mappings s (span a n) ≡ some m → Holding t s a n m
+  pub found-held : (m : Mapping) → around t.mappings s (span a n) ≡ Some m → Holding t s a n m
   unfolding around wraps
   found-held m e =
       let w = find-slot (wraps s (span a n)) t.mappings zero_mapping m e in
       subst (λ (x : Mapping). Holding t s a n x) w.2 (test_held w.0 w.1 (ap (wraps s (span a n)) w.2 ∙ find-some (wraps s (span a n)) t.mappings m e))
 
   -- where none holds it none is found, and where none is found none holds it
-  pub unheld-none : ((m : Mapping) → Holding t s a n m → ⊥) → around t.mappings s (span a n) ≡ none
+  pub unheld-none : ((m : Mapping) → Holding t s a n m → ⊥) → around t.mappings s (span a n) ≡ None
   unfolding around wraps
   unheld-none f =
       find-any_false (wraps s (span a n)) t.mappings
@@ -119,5 +118,5 @@ module _ (t : Table) (g : Sound t) (d s a n : ℕ) (q : Asked t d s a n) where
       (λ e. let w = any-slot (wraps s (span a n)) t.mappings zero_mapping e in absurd (f (get_or t.mappings w.0 zero_mapping) (test_held w.0 w.1 w.2)))
       (λ e. e))
 
-  pub none-unheld : around t.mappings s (span a n) ≡ none → (m : Mapping) → Holding t s a n m → ⊥
+  pub none-unheld : around t.mappings s (span a n) ≡ None → (m : Mapping) → Holding t s a n m → ⊥
   none-unheld e m h = let f = held_found m h in let z : ◌≡◌ {A = ℕ} 0 1 = cc in omega (arith, z)

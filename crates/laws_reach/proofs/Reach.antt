@@ -1,18 +1,17 @@
 -- Reach's answers, for every good table: 0 with an address, -1 and -14 are each given exactly in the case that the plain terms name. A refusal has address 0 beside it.
-use Rattle.std.specs.Prelude.{ℕ, zero, suc, ◌+◌, ◌-◌, ◌≡◌, Bool, true, not, eqb, pos, negsuc}
+use Rattle.std.specs.Prelude.{ℕ, zero, suc, ◌+◌, ◌-◌, ◌≡◌, Bool, true, not, eqb, pos, negsuc, Option, None, Some}
 use Rattle.std.proofs.Math.Path.{refl}
 use Rattle.std.proofs.Common.{sym, ap, ◌∙◌, arith}
 use Rattle.std.proofs.Math.Bool.{false}
 use mathlib.Core.List.{[], ◌∷◌}
-use Rattle.std.proofs.Math.Option.{Option, none, some}
 use borrow.Author.Tests.{eqb-false, ne_eqb, not-false, le-ltb}
 use Rattle.lists.specs.Tests.{by-test, contrary}
 use Rattle.lists.specs.Checks.{when, first, first-nil, first_passes, first-each, passed}
 use Rattle.ranges.specs.Ranges.{U64MAX, passes, passes-false, span}
+use Rattle.rules_table.specs.declared.Attachment.TheVariants.{Loose, Attached}
 use Rattle.rules_table.specs.Flags.{bit}
 use Rattle.rules_calls.specs.Results.{signed_result}
 use Rattle.opening.specs.Signed.{result-none, result-errno}
-use Rattle.rules_table.specs.declared.Attachment.TheVariants.{Loose, Attached}
 use Rattle.rules_table.specs.declared.Kind.{Kind}
 use Rattle.rules_table.specs.declared.Kind.TheVariants.{Free, Space, Device}
 use Rattle.rules_table.specs.declared.Mapping.{Mapping}
@@ -100,17 +99,17 @@ module _ (t : Table) (d a n : ℕ) where
 -- ---- what the mapping found has, by the errno
 
 module _ (a : ℕ) (write : Bool) where
-  in_0 : (o : Option Mapping) → (reach_in a write o).errno ≡ 0 → (m : Mapping) × (o ≡ some m) × (may_do write m ≡ true) × ((reach_in a write o).value ≡ m.memory + (a - m.address))
-  in_0 none e = absurd (omega (arith, e))
-  in_0 (some m) e = by-test (may_do write m) (λ t. (m, refl, t, rw t)) (λ t. absurd (omega (arith, rw t at e)))
+  in_0 : (o : Option Mapping) → (reach_in a write o).errno ≡ 0 → (m : Mapping) × (o ≡ Some m) × (may_do write m ≡ true) × ((reach_in a write o).value ≡ m.memory + (a - m.address))
+  in_0 None e = absurd (omega (arith, e))
+  in_0 (Some m) e = by-test (may_do write m) (λ t. (m, refl, t, rw t)) (λ t. absurd (omega (arith, rw t at e)))
 
-  in_1 : (o : Option Mapping) → (reach_in a write o).errno ≡ 1 → (m : Mapping) × (o ≡ some m) × (may_do write m ≡ false)
-  in_1 none e = absurd (omega (arith, e))
-  in_1 (some m) e = by-test (may_do write m) (λ t. absurd (omega (arith, rw t at e))) (λ t. (m, refl, t))
+  in_1 : (o : Option Mapping) → (reach_in a write o).errno ≡ 1 → (m : Mapping) × (o ≡ Some m) × (may_do write m ≡ false)
+  in_1 None e = absurd (omega (arith, e))
+  in_1 (Some m) e = by-test (may_do write m) (λ t. absurd (omega (arith, rw t at e))) (λ t. (m, refl, t))
 
-  in_14 : (o : Option Mapping) → (reach_in a write o).errno ≡ 14 → o ≡ none
-  in_14 none e = refl
-  in_14 (some m) e = by-test (may_do write m) (λ t. absurd (omega (arith, rw t at e))) (λ t. absurd (omega (arith, rw t at e)))
+  in_14 : (o : Option Mapping) → (reach_in a write o).errno ≡ 14 → o ≡ None
+  in_14 None e = refl
+  in_14 (Some m) e = by-test (may_do write m) (λ t. absurd (omega (arith, rw t at e))) (λ t. absurd (omega (arith, rw t at e)))
 
 -- ---- the laws
 

@@ -1,8 +1,8 @@
 -- What a device reaches, in plain terms: the interval that it asks for, the mapping that holds all of it, and the three cases that document 01 tells apart for a device that is
 -- attached. Nothing that computes reach is cited here, only the records of the table, their numbers and two bits.
 use Rattle.std.specs.Prelude.{ℕ, ◌+◌, ◌-◌, ◌≤◌, ◌<◌, ◌^◌, ◌≡◌, Bool, true, false, length, get_or}
-use Rattle.rules_table.specs.Flags.{bit}
 use Rattle.rules_table.specs.declared.Attachment.TheVariants.{Attached}
+use Rattle.rules_table.specs.Flags.{bit}
 use Rattle.rules_table.specs.declared.Kind.TheVariants.{Device}
 use Rattle.rules_table.specs.declared.Mapping.{Mapping}
 use Rattle.rules_table.specs.declared.Table.{Table}

@@ -1,7 +1,6 @@
 -- What the tool tells is so: where a check fires, what its name says holds.
-use Rattle.std.specs.Prelude.{ℕ, ◌+◌, ◌<◌, ◌≡◌, refl, Bool, true, false, length}
+use Rattle.std.specs.Prelude.{ℕ, ◌+◌, ◌<◌, ◌≡◌, refl, Bool, true, false, length, Option, None, Some, Ok, Err}
 use Rattle.std.proofs.Common.{sym, subst, ◌∙◌, arith}
-use Rattle.std.proofs.Math.Option.{Option, none, some}
 use mathlib.Core.List.{List, [], ◌∷◌, ◌++◌}
 use borrow.Author.Tests.{not-true, ltb-true}
 use Rattle.lists.specs.Tests.{by-test, contrary}
@@ -25,11 +24,10 @@ use Rattle.rules_table.specs.Spaces.{alignment, reserved_for, reserved_of}
 use Rattle.rules_table.specs.Good.{good}
 use Rattle.rules_table.specs.Charge.{charge, free_mapping}
 use Rattle.table.specs.Aligned.{any-reserved_of}
+use Rattle.rules_calls.specs.declared.Command.{Command}
 use Rattle.rules_calls.specs.declared.Command.TheVariants.{Destroy, IoasAlloc, AllowIovas, Copy, IovaRanges, Map, Unmap}
-use Rattle.rules_calls.specs.declared.Row.{Row}
-use Rattle.rules_calls.specs.declared.Row.TheVariants.{Unlisted, Listed}
 use Rattle.rules_calls.specs.Edits.{is_none}
-use Rattle.rules_calls.specs.Requests.{lookup}
+use Rattle.rules_calls.specs.Requests.{request_of, lookup}
 use Rattle.rules_calls.specs.Opening.{size_field, tail, size_checks, open_checks}
 use Rattle.rules_calls.specs.Landing.{blocked_in, lowest_tried, automatic, taken, fixed_checks, automatic_checks, place_checks}
 use Rattle.rules_calls.specs.Map.{MapFields, map_fields, map_number_checks, over_limit, room_checks, map_checks}
@@ -37,8 +35,7 @@ use Rattle.rules_calls.specs.Copy.{CopyFields, copy_fields, source_of, copy_numb
 use Rattle.rules_index.specs.Board.{Board, good_board}
 use Rattle.rules_reasons.specs.declared.Reason.{Reason}
 use Rattle.rules_reasons.specs.declared.Reason.TheVariants.{Accepted, NoSizeField, SizeTooSmall, SizePastBytes, TailNotZero, Misaligned, TouchesReserved, TouchesMapping, LengthMisaligned, NoPlace}
-use Rattle.rules_reasons.specs.declared.Explained.{Explained}
-use Rattle.rules_reasons.specs.declared.Explained.TheVariants.{Refused, Told}
+use Rattle.rules_reasons.specs.Explain.{Explained}
 use Rattle.rules_reasons.specs.Reasons.{named, object_touched, record_touched, longest_in, open_names, map_number_names, copy_number_names, source_names, place_names, room_names, record_names, map_names, copy_names, map_reason, copy_reason}
 use Rattle.rules_reasons.specs.Explain.{open_or, row_told, explained_by, explained, board_explained}
 use Rattle.laws_reasons.specs.Lowest.{lowest-is}
@@ -85,9 +82,9 @@ record_lowest : (ms : List Mapping) (s n x : ℕ) → taken ms s n x ≡ true �
 unfolding taken record_touched
 record_lowest ms s n x e = lowest-is (touches s (span x n)) ms zero_mapping e
 
-none_of : (o : Option ℕ) → is_none o ≡ true → o ≡ none
-none_of none e = refl
-none_of (some n) e = contrary false e refl
+none_of : (o : Option ℕ) → is_none o ≡ true → o ≡ None
+none_of None e = refl
+none_of (Some n) e = contrary false e refl
 
 longest_short : (os : List Object) (ms : List Mapping) (s n : ℕ) → is_none (automatic os ms s n) ≡ true → LongestShort os ms s n (longest_in os ms s)
 unfolding longest_in automatic
@@ -99,7 +96,7 @@ longest_short os ms s n e = (
 -- the names of the place, for what P says of them
 place-telling : (P : Reason → Type 0) (os : List Object) (ms : List Mapping) (s n x : ℕ) → (fits (alignment os s) x n ≡ false → P Misaligned)
     → ((id : ℕ) → LowestObject os s (span x n) id → P (TouchesReserved id)) → ((r : ℕ) → LowestRecord ms s (span x n) r → P (TouchesMapping r))
-    → (multiple (alignment os s) n ≡ false → P LengthMisaligned) → ((run : Run) → LongestShort os ms s n run → P (NoPlace run))
+    → (multiple (alignment os s) n ≡ false → P LengthMisaligned) → ((run : Option Run) → LongestShort os ms s n run → P (NoPlace run))
     → (fixed : Bool) → Telling P (place_checks os ms s fixed n x) (place_names os ms s fixed n x)
 unfolding place_checks place_names fixed_checks automatic_checks
 place-telling P os ms s n x a o r l p true =
@@ -162,23 +159,23 @@ module _ (known : ℕ) (bytes : List ℕ) (os : List Object) (ms : List Mapping)
 -- ---- through the door
 
 -- a refusal says nothing
-abbrev Saying : Row → Table → List ℕ → Explained → Type 0
-Saying w t bytes (Refused n) = Unit {0}
-Saying w t bytes (Told r) = Says w t bytes r
+abbrev Saying : Option Command → Table → List ℕ → Explained → Type 0
+Saying w t bytes (Err n) = Unit {0}
+Saying w t bytes (Ok r) = Says w t bytes r
 
-row-says : (w : Row) (t : Table) (bytes : List ℕ) → Saying w t bytes (row_told w t bytes)
-row-says Unlisted t bytes = tt
-row-says (Listed Destroy size) t bytes = tt
-row-says (Listed IoasAlloc size) t bytes = tt
-row-says (Listed AllowIovas size) t bytes = tt
-row-says (Listed Copy size) t bytes =
-    open_tells (CopySays size bytes t.objects t.mappings (copy_fields bytes)) size bytes (copy_reason t.objects t.mappings (copy_fields bytes)) (λ h. h) (λ h. h) (λ h. h) (λ h. h)
-    (copy_tells size bytes t.objects t.mappings (copy_fields bytes))
-row-says (Listed IovaRanges size) t bytes = tt
-row-says (Listed Map size) t bytes =
-    open_tells (MapSays size bytes t.limit t.objects t.mappings (map_fields bytes)) size bytes (map_reason t.limit t.objects t.mappings (map_fields bytes)) (λ h. h) (λ h. h) (λ h. h) (λ h. h)
-    (map_tells size bytes t.limit t.objects t.mappings (map_fields bytes))
-row-says (Listed Unmap size) t bytes = tt
+row-says : (w : Option Command) (t : Table) (bytes : List ℕ) → Saying w t bytes (row_told w t bytes)
+row-says None t bytes = tt
+row-says (Some Destroy) t bytes = tt
+row-says (Some IoasAlloc) t bytes = tt
+row-says (Some AllowIovas) t bytes = tt
+row-says (Some Copy) t bytes =
+    open_tells (CopySays (request_of Copy).size bytes t.objects t.mappings (copy_fields bytes)) (request_of Copy).size bytes (copy_reason t.objects t.mappings (copy_fields bytes)) (λ h. h) (λ h. h) (λ h. h) (λ h. h)
+    (copy_tells (request_of Copy).size bytes t.objects t.mappings (copy_fields bytes))
+row-says (Some IovaRanges) t bytes = tt
+row-says (Some Map) t bytes =
+    open_tells (MapSays (request_of Map).size bytes t.limit t.objects t.mappings (map_fields bytes)) (request_of Map).size bytes (map_reason t.limit t.objects t.mappings (map_fields bytes)) (λ h. h) (λ h. h) (λ h. h) (λ h. h)
+    (map_tells (request_of Map).size bytes t.limit t.objects t.mappings (map_fields bytes))
+row-says (Some Unmap) t bytes = tt
 
 verdict-says : (v : Bool) (t : Table) (request : ℕ) (bytes : List ℕ) → Saying (lookup request) t bytes (explained_by v t request bytes)
 unfolding explained_by
@@ -186,10 +183,10 @@ verdict-says true t request bytes = row-says (lookup request) t bytes
 verdict-says false t request bytes = tt
 
 -- THE LAWS: what the tool tells is so
-pub table-so : (t : Table) (request : ℕ) (bytes : List ℕ) (r : Reason) → explained t request bytes ≡ Told r → Says (lookup request) t bytes r
+pub table-so : (t : Table) (request : ℕ) (bytes : List ℕ) (r : Reason) → explained t request bytes ≡ Ok r → Says (lookup request) t bytes r
 unfolding explained
 table-so t request bytes r e = subst (Saying (lookup request) t bytes) e (verdict-says (good t) t request bytes)
 
-pub told-so : (b : Board) (request : ℕ) (bytes : List ℕ) (r : Reason) → board_explained b request bytes ≡ Told r → Says (lookup request) b.table bytes r
+pub told-so : (b : Board) (request : ℕ) (bytes : List ℕ) (r : Reason) → board_explained b request bytes ≡ Ok r → Says (lookup request) b.table bytes r
 unfolding board_explained
 told-so b request bytes r e = subst (Saying (lookup request) b.table bytes) e (verdict-says (good_board b) b.table request bytes)

@@ -1,5 +1,5 @@
 -- The tool through the door: by request and bytes. When it should tell and what, with the verdict on the table and its index; and what it tells of a table has the number that the call answers.
-use Rattle.std.specs.Prelude.{ℕ, ◌≡◌, refl, Bool, true, false, ◌||◌, List, eqb}
+use Rattle.std.specs.Prelude.{ℕ, ◌≡◌, refl, Bool, true, false, ◌||◌, List, eqb, Option, Some, None, Ok, Err}
 use Rattle.std.proofs.Common.{sym, ap, subst, ◌∙◌, arith, eqb-true}
 use Rattle.std.proofs.lemmas.Bool.{eqb-false}
 use Rattle.lists.specs.Tests.{by-test, or_neither}
@@ -7,12 +7,10 @@ use Rattle.lists.specs.Search.{find}
 use Rattle.lists.specs.Each.{Each}
 use Rattle.rules_table.specs.declared.Table.{Table}
 use Rattle.rules_table.specs.Good.{good}
+use Rattle.rules_calls.specs.declared.Command.{Command}
 use Rattle.rules_calls.specs.declared.Command.TheVariants.{Destroy, IoasAlloc, AllowIovas, Copy, IovaRanges, Map, Unmap}
-use Rattle.rules_calls.specs.declared.Row.{Row}
-use Rattle.rules_calls.specs.declared.Row.TheVariants.{Unlisted, Listed}
-use Rattle.rules_calls.specs.declared.Opening.TheVariants.{Open}
 use Rattle.rules_calls.specs.Edits.{settle}
-use Rattle.rules_calls.specs.Requests.{commands, lookup}
+use Rattle.rules_calls.specs.Requests.{request_of, commands, lookup}
 use Rattle.rules_calls.specs.Opening.{opening_errno, open_checks, open_row, opened}
 use Rattle.rules_calls.specs.Gate.{gate, gate_errno}
 use Rattle.rules_calls.specs.Map.{map_fields, map_edit}
@@ -22,8 +20,7 @@ use Rattle.opening.proofs.Lookups.{unlisted}
 use Rattle.rules_index.specs.Board.{Board, good_board, board_edit}
 use Rattle.rules_reasons.specs.declared.Reason.{Reason}
 use Rattle.rules_reasons.specs.declared.Reason.TheVariants.{Accepted}
-use Rattle.rules_reasons.specs.declared.Explained.{Explained}
-use Rattle.rules_reasons.specs.declared.Explained.TheVariants.{Refused, Told}
+use Rattle.rules_reasons.specs.Explain.{Explained}
 use Rattle.rules_reasons.specs.Reasons.{reason_errno, open_names, map_reason, copy_reason}
 use Rattle.rules_reasons.specs.Explain.{open_or, row_told, explained_by, explained, board_explained}
 use Rattle.laws_reasons.specs.Names.{settle-named, open_numbered}
@@ -31,15 +28,15 @@ use Rattle.laws_reasons.specs.Numbers.{map_explained, copy_explained}
 
 -- ---- MAP or COPY
 
-abbrev pub places : Row → Bool
-places Unlisted = false
-places (Listed Destroy size) = false
-places (Listed IoasAlloc size) = false
-places (Listed AllowIovas size) = false
-places (Listed Copy size) = true
-places (Listed IovaRanges size) = false
-places (Listed Map size) = true
-places (Listed Unmap size) = false
+abbrev pub places : Option Command → Bool
+places None = false
+places (Some Destroy) = false
+places (Some IoasAlloc) = false
+places (Some AllowIovas) = false
+places (Some Copy) = true
+places (Some IovaRanges) = false
+places (Some Map) = true
+places (Some Unmap) = false
 
 unfoldable pub placing : ℕ → Bool
 placing request = places (lookup request)
@@ -65,27 +62,27 @@ placing-is request =
 
 -- what is told has number k
 abbrev HasNumber : ℕ → Explained → Type 0
-HasNumber k (Refused n) = Unit {0}
-HasNumber k (Told r) = reason_errno r ≡ k
+HasNumber k (Err n) = Unit {0}
+HasNumber k (Ok r) = reason_errno r ≡ k
 
 -- every check of the opening refuses
 open_refuses : Each (λ (r : Reason). reason_errno r ≡ 0 → ⊥) open_names
 open_refuses = (λ e. omega (arith, e), (λ e. omega (arith, e), (λ e. omega (arith, e), (λ e. omega (arith, e), tt))))
 
-row_number : (w : Row) (t : Table) (bytes area : List ℕ) → HasNumber (settle (opening_errno (open_row w bytes)) (row_edit w t bytes area)).errno (row_told w t bytes)
+row_number : (w : Option Command) (t : Table) (bytes area : List ℕ) → HasNumber (settle (opening_errno (open_row w bytes)) (row_edit w t bytes area)).errno (row_told w t bytes)
 unfolding open_or
-row_number Unlisted t bytes area = tt
-row_number (Listed Destroy size) t bytes area = tt
-row_number (Listed IoasAlloc size) t bytes area = tt
-row_number (Listed AllowIovas size) t bytes area = tt
-row_number (Listed Copy size) t bytes area =
-    settle-named opening_errno reason_errno (Open Copy) (copy_reason t.objects t.mappings (copy_fields bytes)) (copy_edit t.objects t.mappings (copy_fields bytes)) (open_checks size bytes) open_names refl
-    (copy_explained t.objects t.mappings (copy_fields bytes)) (open_numbered size bytes) open_refuses
-row_number (Listed IovaRanges size) t bytes area = tt
-row_number (Listed Map size) t bytes area =
-    settle-named opening_errno reason_errno (Open Map) (map_reason t.limit t.objects t.mappings (map_fields bytes)) (map_edit t.limit t.objects t.mappings (map_fields bytes)) (open_checks size bytes) open_names refl
-    (map_explained t.limit t.objects t.mappings (map_fields bytes)) (open_numbered size bytes) open_refuses
-row_number (Listed Unmap size) t bytes area = tt
+row_number None t bytes area = tt
+row_number (Some Destroy) t bytes area = tt
+row_number (Some IoasAlloc) t bytes area = tt
+row_number (Some AllowIovas) t bytes area = tt
+row_number (Some Copy) t bytes area =
+    settle-named opening_errno reason_errno (Ok Copy) (copy_reason t.objects t.mappings (copy_fields bytes)) (copy_edit t.objects t.mappings (copy_fields bytes)) (open_checks (request_of Copy).size bytes) open_names refl
+    (copy_explained t.objects t.mappings (copy_fields bytes)) (open_numbered (request_of Copy).size bytes) open_refuses
+row_number (Some IovaRanges) t bytes area = tt
+row_number (Some Map) t bytes area =
+    settle-named opening_errno reason_errno (Ok Map) (map_reason t.limit t.objects t.mappings (map_fields bytes)) (map_edit t.limit t.objects t.mappings (map_fields bytes)) (open_checks (request_of Map).size bytes) open_names refl
+    (map_explained t.limit t.objects t.mappings (map_fields bytes)) (open_numbered (request_of Map).size bytes) open_refuses
+row_number (Some Unmap) t bytes area = tt
 
 verdict-number : (v : Bool) (t : Table) (request : ℕ) (bytes area : List ℕ) → HasNumber (settle (gate v (opening_errno (opened request bytes))) (row_edit (lookup request) t bytes area)).errno (explained_by v t request bytes)
 unfolding explained_by opened
@@ -93,7 +90,7 @@ verdict-number true t request bytes area = row_number (lookup request) t bytes a
 verdict-number false t request bytes area = tt
 
 -- THE LAWS: what the tool tells has the number of the call
-pub table-told : (t : Table) (request : ℕ) (bytes area : List ℕ) (r : Reason) → explained t request bytes ≡ Told r → reason_errno r ≡ (call_edit t request bytes area).errno
+pub table-told : (t : Table) (request : ℕ) (bytes area : List ℕ) (r : Reason) → explained t request bytes ≡ Ok r → reason_errno r ≡ (call_edit t request bytes area).errno
 unfolding explained call_edit gate_errno
 table-told t request bytes area r e = subst (HasNumber (call_edit t request bytes area).errno) e (verdict-number (good t) t request bytes area)
 
@@ -105,7 +102,7 @@ Exactly P Q = (P → Q) × (Q → P)
 
 -- 117 of a bad table or index; 25 of a request that is neither MAP nor COPY; else a reason, and `Accepted` exactly if the call is accepted
 pub record TellsExactly (b : Board) (request : ℕ) (bytes area : List ℕ) : Type 0 where
-  pub bad : Exactly (board_explained b request bytes ≡ Refused 117) (good_board b ≡ false)
-  pub other : Exactly (board_explained b request bytes ≡ Refused 25) ((good_board b ≡ true) × (placing request ≡ false))
-  pub told : Exactly ((r : Reason) × (board_explained b request bytes ≡ Told r)) ((good_board b ≡ true) × (placing request ≡ true))
-  pub accepted : Exactly (board_explained b request bytes ≡ Told Accepted) ((placing request ≡ true) × ((board_edit b request bytes area).errno ≡ 0))
+  pub bad : Exactly (board_explained b request bytes ≡ Err 117) (good_board b ≡ false)
+  pub other : Exactly (board_explained b request bytes ≡ Err 25) ((good_board b ≡ true) × (placing request ≡ false))
+  pub told : Exactly ((r : Reason) × (board_explained b request bytes ≡ Ok r)) ((good_board b ≡ true) × (placing request ≡ true))
+  pub accepted : Exactly (board_explained b request bytes ≡ Ok Accepted) ((placing request ≡ true) × ((board_edit b request bytes area).errno ≡ 0))

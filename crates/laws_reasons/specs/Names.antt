@@ -1,9 +1,8 @@
 -- Each check of the opening, of MAP and of COPY has one name, and the name's number is the check's. A check that gets no name leaves an empty type to prove.
 use Prim.Native.Nat.{ℕ, zero, suc}
-use Rattle.std.specs.Prelude.{◌≡◌, Bool, true, false}
+use Rattle.std.specs.Prelude.{◌≡◌, Bool, true, false, Option}
 use Rattle.std.proofs.Math.Path.{refl, sym, ap}
 use Rattle.std.proofs.Common.{◌∙◌}
-use Rattle.std.proofs.Math.Option.{Option}
 use mathlib.Core.List.{List, [], ◌∷◌, ◌++◌}
 use Rattle.lists.specs.Tests.{by-test}
 use Rattle.lists.specs.Each.{Each}

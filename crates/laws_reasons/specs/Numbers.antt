@@ -1,7 +1,6 @@
 -- The number that is told is the call's own.
-use Rattle.std.specs.Prelude.{ℕ, zero, suc, ◌≤◌, ◌≡◌, refl, true, false, List}
+use Rattle.std.specs.Prelude.{ℕ, zero, suc, ◌≤◌, ◌≡◌, refl, true, false, List, Option, None, Some}
 use Rattle.std.proofs.Common.{sym, ◌∙◌, arith}
-use Rattle.std.proofs.Math.Option.{Option, none, some}
 use Rattle.lists.specs.Tests.{contrary}
 use Rattle.lists.specs.Checks.{first}
 use Rattle.rules_table.specs.declared.Object.{Object}
@@ -20,8 +19,8 @@ use Rattle.laws_reasons.specs.Names.{itself, first-named, map_numbered, copy_num
 -- where no check fired there is a free record: the errno is that of the checks
 settled : (k : ℕ) (f : Option ℕ) (m : Mapping) → (k ≡ 0 → is_none f ≡ false) → (settle k (mapped f m)).errno ≡ k
 settled (suc k) f m h = refl
-settled zero none m h = contrary true refl (h refl)
-settled zero (some i) m h = refl
+settled zero None m h = contrary true refl (h refl)
+settled zero (Some i) m h = refl
 
 -- THE LAWS
 pub map_explained : (limit : ℕ) (os : List Object) (ms : List Mapping) (c : MapFields) → reason_errno (map_reason limit os ms c) ≡ (map_edit limit os ms c).errno

@@ -1,6 +1,6 @@
 -- What is told is so: one proposition for each reason. Two checks with one number differ here, so that their names cannot be exchanged; and a reason that a command has no check for
 -- says `⊥`, so that it is never told.
-use Rattle.std.specs.Prelude.{ℕ, ◌+◌, ◌<◌, ◌≡◌, true, false, not, ◌&&◌, ◌||◌, eqb, length}
+use Rattle.std.specs.Prelude.{ℕ, ◌+◌, ◌<◌, ◌≡◌, true, false, not, ◌&&◌, ◌||◌, eqb, length, Option, Some, None}
 use mathlib.Core.List.{List, [], ◌∷◌}
 use Rattle.lists.specs.Search.{any}
 use Rattle.lists.specs.Checks.{Check}
@@ -11,8 +11,7 @@ use Rattle.alignment.specs.Multiples.{multiple, fits}
 use Rattle.rangelists.specs.Listed.{allowed}
 use Rattle.wire.specs.Fields.{zeros}
 use Rattle.runs.specs.declared.Run.{Run}
-use Rattle.runs.specs.declared.Run.TheVariants.{Of}
-use Rattle.runs.specs.Runs.{Longest}
+use Rattle.runs.specs.Runs.{run, Longest}
 use Rattle.rules_table.specs.Flags.{unknown, writeable}
 use Rattle.rules_table.specs.declared.Object.{Object}
 use Rattle.rules_table.specs.declared.Mapping.{Mapping}
@@ -20,9 +19,9 @@ use Rattle.rules_table.specs.declared.Table.{Table}
 use Rattle.rules_table.specs.Records.{free_object, zero_mapping, object_at, space_at, touches}
 use Rattle.rules_table.specs.Spaces.{alignment, reserved_for}
 use Rattle.rules_table.specs.Charge.{charge, free_mapping}
+use Rattle.rules_calls.specs.Requests.{request_of}
+use Rattle.rules_calls.specs.declared.Command.{Command}
 use Rattle.rules_calls.specs.declared.Command.TheVariants.{Destroy, IoasAlloc, AllowIovas, Copy, IovaRanges, Map, Unmap}
-use Rattle.rules_calls.specs.declared.Row.{Row}
-use Rattle.rules_calls.specs.declared.Row.TheVariants.{Unlisted, Listed}
 use Rattle.rules_calls.specs.Edits.{is_none}
 use Rattle.rules_calls.specs.Opening.{size_field, tail}
 use Rattle.rules_calls.specs.Landing.{blocked_in, lowest_tried}
@@ -53,8 +52,8 @@ abbrev pub LowestRecord : List Mapping → ℕ → Range → ℕ → Type 0
 LowestRecord ms s r n = Lowest (touches s r) ms zero_mapping n
 
 -- the longest run of space s, which is shorter than n
-abbrev pub LongestShort : List Object → List Mapping → ℕ → ℕ → Run → Type 0
-LongestShort os ms s n run = Longest (alignment os s) lowest_tried (blocked_in os ms s) (allowed (object_at os s).allow) run × ((y k : ℕ) → run ≡ Of y k → k + 1 < n)
+abbrev pub LongestShort : List Object → List Mapping → ℕ → ℕ → Option Run → Type 0
+LongestShort os ms s n longest = Longest (alignment os s) lowest_tried (blocked_in os ms s) (allowed (object_at os s).allow) longest × ((y k : ℕ) → longest ≡ Some (run y k) → k + 1 < n)
 
 -- ---- MAP
 
@@ -113,12 +112,12 @@ module _ (known : ℕ) (bytes : List ℕ) (os : List Object) (ms : List Mapping)
 -- ---- through the door
 
 -- what a reason says of a request's row, a table and bytes
-abbrev pub Says : Row → Table → List ℕ → Reason → Type 0
-Says Unlisted t bytes r = ⊥
-Says (Listed Destroy size) t bytes r = ⊥
-Says (Listed IoasAlloc size) t bytes r = ⊥
-Says (Listed AllowIovas size) t bytes r = ⊥
-Says (Listed Copy size) t bytes r = CopySays size bytes t.objects t.mappings (copy_fields bytes) r
-Says (Listed IovaRanges size) t bytes r = ⊥
-Says (Listed Map size) t bytes r = MapSays size bytes t.limit t.objects t.mappings (map_fields bytes) r
-Says (Listed Unmap size) t bytes r = ⊥
+abbrev pub Says : Option Command → Table → List ℕ → Reason → Type 0
+Says None t bytes r = ⊥
+Says (Some Destroy) t bytes r = ⊥
+Says (Some IoasAlloc) t bytes r = ⊥
+Says (Some AllowIovas) t bytes r = ⊥
+Says (Some Copy) t bytes r = CopySays (request_of Copy).size bytes t.objects t.mappings (copy_fields bytes) r
+Says (Some IovaRanges) t bytes r = ⊥
+Says (Some Map) t bytes r = MapSays (request_of Map).size bytes t.limit t.objects t.mappings (map_fields bytes) r
+Says (Some Unmap) t bytes r = ⊥

@@ -1,6 +1,5 @@
 -- An edit with an errno changes nothing, and so does the call that answers with it.
-use Rattle.std.specs.Prelude.{ℕ, zero, suc, ◌≡◌, refl, negsuc}
-use Rattle.std.proofs.Math.Option.{Option, none, some}
+use Rattle.std.specs.Prelude.{ℕ, zero, suc, ◌≡◌, refl, negsuc, Option, None, Some}
 use Rattle.std.proofs.Common.{arith}
 use Rattle.rules_calls.specs.Results.{signed_result}
 use Rattle.opening.specs.Signed.{result-errno}
@@ -23,8 +22,8 @@ silent-settle zero e s = s
 silent-settle (suc n) e s = λ h. refl
 
 pub silent-added : (f : Option ℕ) (o : Object) → Silent (added f o)
-silent-added none o = λ h. refl
-silent-added (some i) o = λ h. absurd (h refl)
+silent-added None o = λ h. refl
+silent-added (Some i) o = λ h. absurd (h refl)
 
 -- ---- a result below zero is an errno
 

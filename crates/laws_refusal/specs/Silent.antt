@@ -1,6 +1,5 @@
 -- Every edit that a call decides and that has an errno changes nothing: the commands and the host calls, for any table, good or not.
-use Rattle.std.specs.Prelude.{ℕ, ◌-◌, refl, Bool, List, ◌++◌}
-use Rattle.std.proofs.Math.Option.{Option, none, some}
+use Rattle.std.specs.Prelude.{ℕ, ◌-◌, refl, Bool, List, ◌++◌, Option, None, Some}
 use Rattle.lists.specs.Checks.{first}
 use Rattle.ranges.specs.Ranges.{span}
 use Rattle.wire.specs.Fields.{field}
@@ -11,8 +10,6 @@ use Rattle.rules_table.specs.Records.{object_at, home_of, new_space, free_object
 use Rattle.rules_table.specs.Charge.{free_record, free_mapping}
 use Rattle.rules_calls.specs.declared.Command.{Command}
 use Rattle.rules_calls.specs.declared.Command.TheVariants.{Destroy, IoasAlloc, AllowIovas, Copy, IovaRanges, Map, Unmap}
-use Rattle.rules_calls.specs.declared.Row.{Row}
-use Rattle.rules_calls.specs.declared.Row.TheVariants.{Unlisted, Listed}
 use Rattle.rules_calls.specs.declared.Change.TheVariants as Changes
 use Rattle.rules_calls.specs.declared.Act.{Act}
 use Rattle.rules_calls.specs.declared.Act.TheVariants.{Bind, Attach, Detach, Reach, Charge, Next}
@@ -35,8 +32,8 @@ use Rattle.edits.specs.Numbers.{map_checks_at, copy_checks_at, unmap_checks_at, 
 use Rattle.laws_refusal.specs.Edits.{Silent, silent-accept, silent-settle, silent-added}
 
 silent-mapped : (f : Option ℕ) (m : Mapping) → Silent (mapped f m)
-silent-mapped none m = λ h. refl
-silent-mapped (some i) m = λ h. absurd (h refl)
+silent-mapped None m = λ h. refl
+silent-mapped (Some i) m = λ h. absurd (h refl)
 
 silent-command : (c : Command) (t : Table) (bytes area : List ℕ) → Silent (command_edit c t bytes area)
 unfolding destroy_edit alloc_edit allow_edit copy_edit map_edit unmap_edit
@@ -48,9 +45,9 @@ silent-command IovaRanges t bytes area = λ h. refl
 silent-command Map t bytes area = silent-settle (first (map_checks_at t.limit t.objects t.mappings (field 4 bytes 4) (field 4 bytes 8) (field 4 bytes 12) (field 8 bytes 16) (field 8 bytes 24) (field 8 bytes 32)) 0) _ (silent-mapped (free_mapping t.mappings) (founding t.objects t.mappings (field 4 bytes 4) (field 4 bytes 8) (field 8 bytes 16) (field 8 bytes 24) (field 8 bytes 32)))
 silent-command Unmap t bytes area = silent-settle (first (unmap_checks_at t.objects t.mappings (field 4 bytes 4) (field 8 bytes 8) (field 8 bytes 16)) 0) _ (silent-accept (removed_bytes (field 4 bytes 4) (range_asked (field 8 bytes 8) (field 8 bytes 16)) t.mappings) (Changes.Clear (field 4 bytes 4) (range_asked (field 8 bytes 8) (field 8 bytes 16))) free_object)
 
-silent-row : (r : Row) (t : Table) (bytes area : List ℕ) → Silent (row_edit r t bytes area)
-silent-row Unlisted t bytes area = λ h. refl
-silent-row (Listed c size) t bytes area = silent-command c t bytes area
+silent-row : (r : Option Command) (t : Table) (bytes area : List ℕ) → Silent (row_edit r t bytes area)
+silent-row None t bytes area = λ h. refl
+silent-row (Some c) t bytes area = silent-command c t bytes area
 
 -- THE LAWS
 pub silent-call : (t : Table) (request : ℕ) (bytes area : List ℕ) → Silent (call_edit t request bytes area)

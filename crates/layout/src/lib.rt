@@ -13,34 +13,26 @@ use rules_table::{Attachment, Kind, Object, RawObject};
 pub fn low(w: u64) -> u32
     ensures { result ≡ low w }
 {
-    (w % 4294967296) as u32
+    (w & 0xFFFF_FFFF) as u32
 }
 
 pub fn high(w: u64) -> u32
     ensures { result ≡ high w }
 {
-    (w / 4294967296 % 4294967296) as u32
+    (w >> 32) as u32
 }
 
 pub fn kind_of(kind: u32, home: u32) -> Kind
     ensures { result ≡ kind_of kind home }
 {
-    if kind == 3 {
-        return Kind::Device(Attachment::Attached(home));
+    match kind {
+        3 => Kind::Device(Attachment::Attached(home)),
+        _ if home != 0 => Kind::Device(Attachment::Attached(0)),
+        0 => Kind::Free,
+        1 => Kind::Space,
+        2 => Kind::Device(Attachment::Loose),
+        _ => Kind::Device(Attachment::Attached(0)),
     }
-    if home != 0 {
-        return Kind::Device(Attachment::Attached(0));
-    }
-    if kind == 0 {
-        return Kind::Free;
-    }
-    if kind == 1 {
-        return Kind::Space;
-    }
-    if kind == 2 {
-        return Kind::Device(Attachment::Loose);
-    }
-    Kind::Device(Attachment::Attached(0))
 }
 
 fn tag_of(k: Kind) -> u32
@@ -49,55 +41,60 @@ fn tag_of(k: Kind) -> u32
     match k {
         Kind::Free => 0,
         Kind::Space => 1,
-        Kind::Device(a) => match a {
-            Attachment::Loose => 2,
-            Attachment::Attached(_) => 3,
-        },
+        Kind::Device(Attachment::Loose) => 2,
+        Kind::Device(Attachment::Attached(_)) => 3,
     }
 }
 
 pub fn decode(r: RawObject) -> Object
     ensures { result ≡ decoded r }
 {
-    let kind = kind_of(r.kind, r.home);
-    let starts = r.starts;
-    let lasts = r.lasts;
-    let reserved = Reserved {
-        count: r.reserves,
+    let RawObject {
+        kind,
+        home,
+        bitmap,
+        reserves,
+        allows,
         starts,
         lasts,
-    };
-    let froms = r.froms;
-    let ends = r.ends;
-    let allow = Allowed {
-        count: r.allows,
-        starts: froms,
-        lasts: ends,
-    };
+        froms,
+        ends,
+    } = r;
     Object {
-        kind,
-        bitmap: r.bitmap,
-        reserved,
-        allow,
+        kind: kind_of(kind, home),
+        bitmap,
+        reserved: Reserved {
+            count: reserves,
+            starts,
+            lasts,
+        },
+        allow: Allowed {
+            count: allows,
+            starts: froms,
+            lasts: ends,
+        },
     }
 }
 
 pub fn encode(o: Object) -> RawObject
     ensures { result ≡ encoded o }
 {
-    let k = o.kind;
-    let l = o.reserved;
-    let a = o.allow;
-    let starts = l.starts;
-    let lasts = l.lasts;
-    let froms = a.starts;
-    let ends = a.lasts;
+    let Reserved {
+        count: reserves,
+        starts,
+        lasts,
+    } = o.reserved;
+    let Allowed {
+        count: allows,
+        starts: froms,
+        lasts: ends,
+    } = o.allow;
     RawObject {
-        kind: tag_of(k),
-        home: table::home_of(k),
+        kind: tag_of(o.kind),
+        home: table::home_of(o.kind),
         bitmap: o.bitmap,
-        reserves: l.count,
-        allows: a.count,
+        reserves,
+        allows,
         starts,
         lasts,
         froms,

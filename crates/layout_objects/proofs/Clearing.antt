@@ -1,19 +1,22 @@
 -- Words that are all zero: found so by their joined bits, and made so one by one.
-use Prim.Native.Nat.{ℕ, ◌+◌, ◌*◌, ◌≤◌, ◌<◌}
+use Prim.Native.Nat.{ℕ, zero, suc, ◌+◌, ◌*◌, ◌≤◌, ◌<◌}
 use mathlib.Core.Path.{◌≡◌, sym, ap, ◌∙◌}
 use mathlib.Core.Bool.{true}
 use mathlib.Core.List.{List}
 use native.Mathlib.Omega.{arith}
 use lib.Bits.{bit_or, or_add_and, and_le_l, and_le_r}
 use lib.Dec.{eqb}
-use lib.ListN.{length, get_or, set, length-set}
-use lib.Seq.{get_or-set_same, get_or-set_other}
+use lib.ListN.{length, get_or, set, replicate, length-replicate}
+use lib.Seq.{paste, paste-zero, paste-suc}
+use borrow.Rule.Slice.PartMut.{put_mid}
+use Rattle.std.proofs.lemmas.Slice.{put_mid-paste}
+use Rattle.std.proofs.lemmas.List.{get_or-replicate}
 use borrow.Author.Count.{below_more}
 use borrow.Author.Tests.{eqb-true}
 use Rattle.rules_table.specs.Records.{zero_object, free_object}
 use Rattle.rules_table.specs.Layout.{fresh_head}
 use Rattle.rules_table.specs.Words.{head_in, objects_in}
-use Rattle.layout_objects.specs.Writing.{zero_free, fresh-words}
+use Rattle.layout_objects.specs.Writing.{put_up_to, zero_free, fresh-words}
 
 -- no bit of either
 bit_or-none : (a b : ℕ) → bit_or a b ≡ 0 → (a ≡ 0) × (b ≡ 0)
@@ -36,24 +39,17 @@ pub joined_end : (h : List ℕ) (i b k bits : ℕ) → Joined h b k bits → b �
 joined_end h i b k bits v p l m e =
     zero_free h i l (λ j n. ap (λ (x : ℕ). get_or h (x + j) 0) (sym p) ∙ v.none (eqb-true bits 0 e) j (omega (arith, m, n)))
 
--- the first k words are zero
-pub record Cleared (k : ℕ) (h : List ℕ) : Type 0 where
-  pub room : length h ≡ 865
-  pub upto : k ≤ 865
-  pub none : (j : ℕ) → j < k → get_or h j 0 ≡ 0
+-- words that were filled with zeros, and then the limit
+pub filled-limit : (h : List ℕ) (n limit : ℕ) → h ≡ replicate n 0 → n ≡ 865 → head_in (set h 0 limit) ≡ fresh_head limit
+filled-limit h n limit e m =
+    fresh-words h limit (ap length e ∙ length-replicate n 0 ∙ m) (λ j l. ap (λ (w : List ℕ). get_or w j 0) e ∙ get_or-replicate n j 0 0 (omega (arith, l, m)))
 
-pub cleared-start : (h : List ℕ) → length h ≡ 865 → Cleared 0 h
-cleared-start h m = record { room = m; upto = omega arith; none = λ j l. absurd (omega (arith, l)) }
+-- words that are copied as one part, one by one
+copied : (h : List ℕ) (b : ℕ) (w : List ℕ) (n : ℕ) → n ≤ length w → b + n ≤ length h → put_up_to h b w n ≡ paste h b w n
+unfolding put_up_to
+copied h b w zero l k = paste-zero h b w
+copied h b w (suc n) l k =
+    ap (λ (v : List ℕ). set v (b + n) (get_or w n 0)) (copied h b w n (omega arith) (omega arith)) ∙ paste-suc h b w n 0 (omega arith) (omega arith)
 
-pub cleared-on : (k : ℕ) (h : List ℕ) → Cleared k h → k < 865 → Cleared (k + 1) (set h k 0)
-cleared-on k h v l = record {
-  room = length-set h k 0 ∙ v.room;
-  upto = omega (arith, l);
-  none =
-      below_more (λ (j : ℕ). get_or (set h k 0) j 0 ≡ 0) k
-      (λ j m. get_or-set_other h k j 0 0 (λ e. omega (arith, e, m)) ∙ v.none j m)
-      (get_or-set_same h k 0 0 (omega (arith, v.room, l)));
-}
-
-pub cleared-end : (k : ℕ) (h : List ℕ) (limit : ℕ) → Cleared k h → 865 ≤ k → head_in (set h 0 limit) ≡ fresh_head limit
-cleared-end k h limit v l = fresh-words h limit v.room (λ j m. v.none j (omega (arith, l, m)))
+pub copied-part : (h : List ℕ) (b : ℕ) (w : List ℕ) (n k : ℕ) (ys : List ℕ) → ys ≡ w → n ≡ k → n ≡ length w → b + n ≤ length h → put_mid b k h ys ≡ put_up_to h b w n
+copied-part h b w n k ys e s m l = put_mid-paste b k h ys w n e s m ∙ sym (copied h b w n (omega arith) l)

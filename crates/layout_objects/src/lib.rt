@@ -1,7 +1,7 @@
 // The object records of a head of 865 words, in place: one is read where it is judged or used, and one is written.
 #![tactic(auto)]
 
-ghost use Rattle.std.specs.Prelude.{◌≡◌, true, ◌+◌, ◌≤◌, ◌<◌, length, get_or};
+ghost use Rattle.std.specs.Prelude.{◌≡◌, true, ◌+◌, ◌*◌, ◌≤◌, ◌<◌, length, get_or};
 ghost use Rattle.rules_table.specs.Records.{zero_object, object_at, free_object};
 ghost use Rattle.rules_table.specs.Layout.{encoded, fresh_head};
 ghost use Rattle.rules_table.specs.Words.{four_at, eight_at, raw_at, head_in, objects_in};
@@ -20,23 +20,14 @@ fn four_at(h: &[u64; 865], b: usize) -> [u64; 4]
     requires { b + 4 ≤ 865 }
     ensures { result ≡ four_at h.now b }
 {
-    [h[b], h[b + 1], h[b + 2], h[b + 3]]
+    std::array::from_fn(|k| h[b + k])
 }
 
 fn eight_at(h: &[u64; 865], b: usize) -> [u64; 8]
     requires { b + 8 ≤ 865 }
     ensures { result ≡ eight_at h.now b }
 {
-    [
-        h[b],
-        h[b + 1],
-        h[b + 2],
-        h[b + 3],
-        h[b + 4],
-        h[b + 5],
-        h[b + 6],
-        h[b + 7],
-    ]
+    std::array::from_fn(|k| h[b + k])
 }
 
 // The numbers of the record whose words begin at b.
@@ -80,9 +71,7 @@ pub fn kind_at(h: &[u64; 865], i: usize) -> Kind
     if w == 0 {
         return Kind::Free;
     }
-    let kind = layout::low(w);
-    let home = layout::high(w);
-    layout::kind_of(kind, home)
+    layout::kind_of(layout::low(w), layout::high(w))
 }
 
 // Its reserved ranges alone.
@@ -104,13 +93,10 @@ pub fn reserved_at(h: &[u64; 865], i: usize) -> Reserved
 pub fn object_of(h: &[u64; 865], id: u32) -> Object
     ensures { result ≡ object_at (objects_in h.now) id }
 {
-    if id == 0 {
-        return edits::free_object();
+    match id {
+        1..=32 => object_at(h, (id - 1) as usize),
+        _ => edits::free_object(),
     }
-    if 32 < id {
-        return edits::free_object();
-    }
-    object_at(h, (id - 1) as usize)
 }
 
 // Whether all words of slot i are zero, so that its object is released. Their bits are joined: the loop has no branch.
@@ -119,51 +105,63 @@ pub fn is_released(h: &[u64; 865], i: usize) -> bool
     ensures { result ≡ true → get_or (objects_in h.now) i zero_object ≡ free_object }
 {
     let b = 27 * i + 1;
-    let mut bits: u64 = 0;
-    let mut k: usize = 0;
-    while k < 27 {
-        bits = bits | h[b + k];
-        k += 1;
+    let mut bits = 0;
+    for k in 0..27 {
+        bits |= h[b + k];
     }
     bits == 0
+}
+
+// A word of two halves.
+fn joined(low: u32, high: u32) -> u64
+    ensures { result ≡ low + 4294967296 * high }
+{
+    u64::from(low) + (u64::from(high) << 32)
 }
 
 // The words of a record: read back they are the record.
 fn words_of(r: RawObject) -> [u64; 27]
     ensures { raw_at result 0 ≡ r }
 {
-    let s = r.starts;
-    let l = r.lasts;
-    let f = r.froms;
-    let e = r.ends;
+    let RawObject {
+        kind,
+        home,
+        bitmap,
+        reserves,
+        allows,
+        starts,
+        lasts,
+        froms,
+        ends,
+    } = r;
     [
-        (r.kind as u64) + 4294967296 * (r.home as u64),
-        r.bitmap,
-        (r.reserves as u64) + 4294967296 * (r.allows as u64),
-        s[0],
-        s[1],
-        s[2],
-        s[3],
-        l[0],
-        l[1],
-        l[2],
-        l[3],
-        f[0],
-        f[1],
-        f[2],
-        f[3],
-        f[4],
-        f[5],
-        f[6],
-        f[7],
-        e[0],
-        e[1],
-        e[2],
-        e[3],
-        e[4],
-        e[5],
-        e[6],
-        e[7],
+        joined(kind, home),
+        bitmap,
+        joined(reserves, allows),
+        starts[0],
+        starts[1],
+        starts[2],
+        starts[3],
+        lasts[0],
+        lasts[1],
+        lasts[2],
+        lasts[3],
+        froms[0],
+        froms[1],
+        froms[2],
+        froms[3],
+        froms[4],
+        froms[5],
+        froms[6],
+        froms[7],
+        ends[0],
+        ends[1],
+        ends[2],
+        ends[3],
+        ends[4],
+        ends[5],
+        ends[6],
+        ends[7],
     ]
 }
 
@@ -172,11 +170,7 @@ fn put_words(h: &mut [u64], b: usize, w: [u64; 27])
     requires { b + 27 ≤ length h.old }
     ensures { h.new ≡ put_up_to h.old b w 27 }
 {
-    let mut n: usize = 0;
-    while n < 27 {
-        h[b + n] = w[n];
-        n += 1;
-    }
+    h[b..b + 27].copy_from_slice(&w);
 }
 
 // The object in slot i becomes o.
@@ -187,36 +181,22 @@ pub fn put(h: &mut [u64; 865], i: usize, o: Object)
     put_words(h, 27 * i + 1, words_of(layout::encode(o)));
 }
 
-fn clear(h: &mut [u64], limit: u64)
-    requires { length h.old ≡ 865 }
-    ensures { head_in h.new ≡ fresh_head limit }
-{
-    let mut k: usize = 0;
-    while k < 865 {
-        h[k] = 0;
-        k += 1;
-    }
-    h[0] = limit;
-}
-
 // Every object released, and a limit.
 pub fn fresh(h: &mut [u64; 865], limit: u64)
     ensures { head_in h.new ≡ fresh_head limit }
 {
-    clear(h, limit);
+    h.fill(0);
+    h[0] = limit;
 }
 
 // The head of a table, for a caller that has the table by value.
 pub fn head_of(limit: u64, os: [Object; 32]) -> [u64; 865]
     ensures { (objects_in result ≡ os) × ((head_in result).limit ≡ limit) }
 {
-    let mut h: [u64; 865] = [0; 865];
+    let mut h = [0; 865];
     h[0] = limit;
-    let mut i: usize = 0;
-    while i < 32 {
-        let o = os[i];
-        put(&mut h, i, o);
-        i += 1;
+    for i in 0..32 {
+        put(&mut h, i, os[i]);
     }
     h
 }

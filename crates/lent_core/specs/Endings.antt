@@ -1,8 +1,7 @@
 -- How the calls end: what is decided and written is what the entries promise, and so is 117 for another number of records.
-use Rattle.std.specs.Prelude.{ℕ, ◌≤◌, ◌<◌, ◌≡◌, refl, false, List, ℤ, length, get_or}
+use Rattle.std.specs.Prelude.{ℕ, ◌≤◌, ◌<◌, ◌≡◌, refl, false, List, ℤ, length, get_or, Option, None, Some}
 use Rattle.std.proofs.Math.Path.{sym, ap}
 use Rattle.std.proofs.Common.{subst, ◌∙◌, arith}
-use Rattle.std.proofs.Math.Option.{Option, none, some}
 use Rattle.lists.specs.Tests.{by-test}
 use Rattle.rules_calls.specs.Results.{signed_result}
 use Rattle.rules_table.specs.declared.Mapping.{Mapping}
@@ -102,12 +101,12 @@ module _ (h : List ℕ) (count : ℕ) (ws : List (List ℕ)) (bs : List ℕ) (re
 -- ---- host calls
 
 abbrev number_of : Option Order → ℕ
-number_of none = 0
-number_of (some o) = 1
+number_of None = 0
+number_of (Some o) = 1
 
 abbrev or_else : Order → Option Order → Order
-or_else p none = p
-or_else p (some o) = o
+or_else p None = p
+or_else p (Some o) = o
 
 -- a change of objects alone releases no mapping
 alone-spans : (ms : List Mapping) (c : Change) (v : Slots) → ObjectsAlone c → Spanning c ms v
@@ -166,7 +165,7 @@ module _ (h : List ℕ) (count : ℕ) (ws : List (List ℕ)) (bs : List ℕ) (ki
   }
 
   -- an order
-  module _ (o : Order) (l : 10 ≤ length vs) (k : kind ≡ 0 → ⊥) (asked : order_in kind vs ≡ some o) where
+  module _ (o : Order) (l : 10 ≤ length vs) (k : kind ≡ 0 → ⊥) (asked : order_in kind vs ≡ Some o) where
     only-order : (s : Served) (h' bs' vs' : List ℕ)
         → ((ms : List Mapping) → length ms ≡ count → Loaded ms ws → LentHost (head_in h) ms bs o vs s.result (head_in h') (stored s.records ms) bs' vs')
         → HostServed h count ws bs kind vs s h' bs' vs'

@@ -8,16 +8,16 @@ ghost use Rattle.rules_reasons.specs.Explain.{tool_errno, told_words};
 ghost use Rattle.explain.specs.Answered.{ShortTold};
 ghost use Rattle.lent_explain.specs.Serving.{ExplainServed};
 
-use rules_reasons::Explained;
+use rules_reasons::Reason;
 
 // The words of what is told, and the result.
-fn tell(e: Explained, words: &mut [u64]) -> i32
+fn tell(e: Result<Reason, u8>, words: &mut [u64]) -> i32
     requires { (length words.old ≡ 5) × ShortTold e }
     ensures { (result ≡ signed_result (tool_errno e)) × (words.new ≡ told_words e words.old) }
 {
     match e {
-        Explained::Refused(n) => opening::signed_result(n),
-        Explained::Told(r) => {
+        Err(n) => opening::signed_result(n),
+        Ok(r) => {
             reason_words::write(r, words);
             opening::signed_result(0)
         }

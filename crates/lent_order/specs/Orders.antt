@@ -1,7 +1,6 @@
 -- The order of a host call from its kind and words: a law for each kind. What an edit tells, in the first of them.
-use Rattle.std.specs.Prelude.{ℕ, ◌<◌, ◌≡◌, cond, List, eqb, get_or, set}
+use Rattle.std.specs.Prelude.{ℕ, ◌<◌, ◌≡◌, cond, List, eqb, get_or, set, None, Some}
 use Rattle.std.proofs.Common.{sym, ap, arith, eq-eqb, ne_eqb}
-use Rattle.std.proofs.Math.Option.{none, some}
 use Rattle.rules_table.specs.Words.{low}
 use Rattle.rules_calls.specs.declared.Order.{Order}
 use Rattle.rules_calls.specs.Orders.{bind_order, attach_order, detach_order, reach_order, charge_order, next_order}
@@ -14,32 +13,32 @@ told_in errno value words = cond (eqb errno 0) (set words 0 value) words
 -- ---- laws
 
 module _ (kind : ℕ) (vs : List ℕ) (o : Order) where
-  pub is-bind : kind ≡ 1 → o ≡ bind_order (get_or vs 0 0) (reserved_in vs) → order_in kind vs ≡ some o
+  pub is-bind : kind ≡ 1 → o ≡ bind_order (get_or vs 0 0) (reserved_in vs) → order_in kind vs ≡ Some o
   unfolding order_in
-  is-bind k e = rw k (ap (λ (p : Order). some p) (sym e))
+  is-bind k e = rw k (ap (λ (p : Order). Some p) (sym e))
 
-  pub is-attach : kind ≡ 2 → o ≡ attach_order (low (get_or vs 0 0)) (low (get_or vs 1 0)) → order_in kind vs ≡ some o
+  pub is-attach : kind ≡ 2 → o ≡ attach_order (low (get_or vs 0 0)) (low (get_or vs 1 0)) → order_in kind vs ≡ Some o
   unfolding order_in
-  is-attach k e = rw k (ap (λ (p : Order). some p) (sym e))
+  is-attach k e = rw k (ap (λ (p : Order). Some p) (sym e))
 
-  pub is-detach : kind ≡ 3 → o ≡ detach_order (low (get_or vs 0 0)) → order_in kind vs ≡ some o
+  pub is-detach : kind ≡ 3 → o ≡ detach_order (low (get_or vs 0 0)) → order_in kind vs ≡ Some o
   unfolding order_in
-  is-detach k e = rw k (ap (λ (p : Order). some p) (sym e))
+  is-detach k e = rw k (ap (λ (p : Order). Some p) (sym e))
 
-  pub is-reach : kind ≡ 4 → o ≡ reach_order (low (get_or vs 0 0)) (get_or vs 1 0) (get_or vs 2 0) (is_write (get_or vs 3 0)) → order_in kind vs ≡ some o
+  pub is-reach : kind ≡ 4 → o ≡ reach_order (low (get_or vs 0 0)) (get_or vs 1 0) (get_or vs 2 0) (is_write (get_or vs 3 0)) → order_in kind vs ≡ Some o
   unfolding order_in
-  is-reach k e = rw k (ap (λ (p : Order). some p) (sym e))
+  is-reach k e = rw k (ap (λ (p : Order). Some p) (sym e))
 
-  pub is-charge : kind ≡ 5 → o ≡ charge_order → order_in kind vs ≡ some o
+  pub is-charge : kind ≡ 5 → o ≡ charge_order → order_in kind vs ≡ Some o
   unfolding order_in
-  is-charge k e = rw k (ap (λ (p : Order). some p) (sym e))
+  is-charge k e = rw k (ap (λ (p : Order). Some p) (sym e))
 
-  pub is-next : kind ≡ 6 → o ≡ next_order (low (get_or vs 0 0)) (get_or vs 1 0) → order_in kind vs ≡ some o
+  pub is-next : kind ≡ 6 → o ≡ next_order (low (get_or vs 0 0)) (get_or vs 1 0) → order_in kind vs ≡ Some o
   unfolding order_in
-  is-next k e = rw k (ap (λ (p : Order). some p) (sym e))
+  is-next k e = rw k (ap (λ (p : Order). Some p) (sym e))
 
 -- what a kind that is none asks
-pub no-order : (kind : ℕ) (vs : List ℕ) → 6 < kind → order_in kind vs ≡ none
+pub no-order : (kind : ℕ) (vs : List ℕ) → 6 < kind → order_in kind vs ≡ None
 unfolding order_in
 no-order kind vs k =
     rw (
@@ -51,7 +50,7 @@ no-order kind vs k =
       ne_eqb kind 6 (λ z. omega (arith, z, k)),
     )
 
-pub fresh-order : (kind : ℕ) (vs : List ℕ) → kind ≡ 0 → order_in kind vs ≡ none
+pub fresh-order : (kind : ℕ) (vs : List ℕ) → kind ≡ 0 → order_in kind vs ≡ None
 unfolding order_in
 fresh-order kind vs k = rw k
 

@@ -1,8 +1,7 @@
 // What the words of a host call ask, and what it tells in them.
 #![tactic(auto)]
 
-ghost use Rattle.std.specs.Prelude.{◌≤◌, ◌≡◌, length};
-ghost use Rattle.std.proofs.Math.Option.{some};
+ghost use Rattle.std.specs.Prelude.{◌≤◌, ◌≡◌, length, Some};
 ghost use Rattle.rules_lent.specs.Entries.{order_in, reserved_in};
 ghost use Rattle.lent_order.specs.Orders.{told_in};
 
@@ -25,7 +24,7 @@ fn reserved_in(words: &[u64]) -> Reserved
 // What a kind from 1 to 6 asks.
 pub fn order_in(kind: u32, words: &[u64]) -> Order
     requires { (10 ≤ length words.now) × (1 ≤ kind) × (kind ≤ 6) }
-    ensures { order_in kind words.now ≡ some result }
+    ensures { order_in kind words.now ≡ Some result }
 {
     if kind == 1 {
         return host_orders::bind_order(words[0], reserved_in(words));

@@ -28,43 +28,38 @@ pub fn is_changed(c: Records, k: usize, m: Mapping) -> bool
     match c {
         Records::Keep => false,
         Records::Put(i, _) => k == i,
-        Records::Clear(s, r, first, end) => checks::both(
-            first <= k,
-            checks::both(k < end, table::is_within(m, s, r)),
-        ),
+        Records::Clear(s, r, first, end) => { first <= k && k < end && table::is_within(m, s, r) }
         Records::Wipe => true,
     }
 }
+
+// A record that holds nothing.
+const ZERO: Mapping = Mapping {
+    space: 0,
+    rights: 0,
+    founder: 0,
+    backing: 0,
+    address: 0,
+    length: 0,
+    memory: 0,
+};
 
 // What is written there.
 pub fn new_record(c: Records) -> Mapping
     ensures { result ≡ becomes c }
 {
-    let zero = Mapping {
-        space: 0,
-        rights: 0,
-        founder: 0,
-        backing: 0,
-        address: 0,
-        length: 0,
-        memory: 0,
-    };
     match c {
-        Records::Keep => zero,
         Records::Put(_, m) => m,
-        Records::Clear(_, _, _, _) => zero,
-        Records::Wipe => zero,
+        Records::Keep | Records::Clear(..) | Records::Wipe => ZERO,
     }
 }
 
 // How many records are read: all of 128, and none of another number.
+#[tactic(auto, unfolding(crate::specs::Loading::bound_of))]
 fn bound(n: usize) -> usize
     ensures { result ≡ bound_of n }
 {
-    if n == 128 {
-        return 128;
-    }
-    0
+    if n == 128 { 128 } else { 0 }
 }
 
 // Of n records those before this place are looked at: none where none changes; where one is put, none after it; where some are released, none after the last of them.
@@ -74,7 +69,7 @@ fn turns(c: Records, n: usize) -> usize
     match c {
         Records::Keep => 0,
         Records::Put(i, _) => if i < n { i + 1 } else { 0 },
-        Records::Clear(_, _, _, end) => if end < n { end } else { n },
+        Records::Clear(_, _, _, end) => end.min(n),
         Records::Wipe => n,
     }
 }
@@ -86,7 +81,7 @@ fn first_turn(c: Records, n: usize) -> usize
     match c {
         Records::Keep => 0,
         Records::Put(i, _) => if i < n { i } else { 0 },
-        Records::Clear(_, _, first, _) => if first < n { first } else { n },
+        Records::Clear(_, _, first, _) => first.min(n),
         Records::Wipe => 0,
     }
 }
@@ -96,10 +91,8 @@ pub fn load(ms: &[Mapping], ws: &mut [[u64; 5]; 128])
     ensures { Loaded ms.now ws.new }
 {
     let n = bound(ms.len());
-    let mut i: usize = 0;
-    while i < n {
+    for i in 0..n {
         ws[i] = layout_mappings::words(ms[i]);
-        i += 1;
     }
 }
 
@@ -109,11 +102,9 @@ pub fn store(ms: &mut [Mapping], c: Records)
 {
     let r = new_record(c);
     let n = turns(c, ms.len());
-    let mut i = first_turn(c, n);
-    while i < n {
+    for i in first_turn(c, n)..n {
         if is_changed(c, i, ms[i]) {
             ms[i] = r;
         }
-        i += 1;
     }
 }

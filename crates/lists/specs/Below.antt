@@ -1,9 +1,8 @@
 -- Sums and counts over the numbers below n, the exchange with a sum over a list, and the lowest of some numbers that passes a test.
 -- All are shut: a sum over 2^64 numbers is reasoned about and never computed.
-use Rattle.std.specs.Prelude.{ℕ, zero, suc, ◌+◌, ◌-◌, ◌*◌, ◌≤◌, ◌<◌, min, ◌≡◌, refl, Bool, true, false, ◌&&◌, List, leb, ltb, eqb}
+use Rattle.std.specs.Prelude.{ℕ, zero, suc, ◌+◌, ◌-◌, ◌*◌, ◌≤◌, ◌<◌, min, ◌≡◌, refl, Bool, true, false, ◌&&◌, List, leb, ltb, eqb, Option, None, Some}
 use Rattle.std.proofs.Common.{zero-le, ◌∙◌, ⊎_elim, le_of_suc-le-suc, not-suc-le-zero, eq-or-lt_of_le, leb-true, leb-false, ltb-true, ltb-false, eqb-true}
 use Rattle.std.proofs.Math.Path.{sym}
-use Rattle.std.proofs.Math.Option.{Option, none, some}
 use native.Mathlib.Omega.{arith}
 use Rattle.std.proofs.lemmas.Bool.{eqb-false}
 use Rattle.lists.specs.Tests.{by-test, contrary, only_if, only_if-false}
@@ -80,11 +79,11 @@ unfolding count_below sum_below
 count_below-one zero p h = zero-le
 count_below-one (suc n) p h =
     by-test (p n)
-    (λ e. rw e (omega (arith, none e, sum_below-zero n)))
+    (λ e. rw e (omega (arith, out e, sum_below-zero n)))
     (λ e. rw e (omega (arith, count_below-one n p (λ j k a b. h j k (omega arith) (omega arith)))))
   where
-    none : p n ≡ true → sum_below (λ k. only_if (p k) 1) n ≡ sum_below (λ k. 0) n
-    none e = sum_below-cong (λ k. only_if (p k) 1) (λ k. 0) n (λ k l. only_if-false (p k) 1 (by-test (p k) (λ q. let s : k ≡ n = h k n (omega arith) (omega arith) q e in absurd (omega arith)) (λ q. q)))
+    out : p n ≡ true → sum_below (λ k. only_if (p k) 1) n ≡ sum_below (λ k. 0) n
+    out e = sum_below-cong (λ k. only_if (p k) 1) (λ k. 0) n (λ k l. only_if-false (p k) 1 (by-test (p k) (λ q. let s : k ≡ n = h k n (omega arith) (omega arith) q e in absurd (omega arith)) (λ q. q)))
 
 -- how many numbers from x on, but below y, lie below n
 count_below-cut : (n x y : ℕ) → count_below n (λ k. leb x k && ltb k y) ≡ min n y - x
@@ -104,10 +103,10 @@ count_below-run n x y h = omega (arith, count_below-cut n x y)
 -- ---- the first of the n numbers from k on that passes
 
 unfoldable pub lowest : (ℕ → Bool) → ℕ → ℕ → Option ℕ
-lowest p zero k = none
-lowest p (suc n) k = elim (p k) [ true ↦ some k | false ↦ lowest p n (k + 1) ]
+lowest p zero k = None
+lowest p (suc n) k = elim (p k) [ true ↦ Some k | false ↦ lowest p n (k + 1) ]
 
-lowest-true : (p : ℕ → Bool) (n k : ℕ) → p k ≡ true → lowest p (suc n) k ≡ some k
+lowest-true : (p : ℕ → Bool) (n k : ℕ) → p k ≡ true → lowest p (suc n) k ≡ Some k
 unfolding lowest
 lowest-true p n k e = rw (e, lowest)
 
@@ -130,7 +129,7 @@ lowest-later p n k m t r = record {
   least = λ j a b. by-test (eqb j k) (λ q. rw (eqb-true j k q) t) (λ q. let ne : j ≡ k → ⊥ = eqb-false j k q in r.least j (omega (arith, ne)) b);
 }
 
-pub lowest-some : (p : ℕ → Bool) (n k m : ℕ) → lowest p n k ≡ some m → LowestOf p n k m
+pub lowest-some : (p : ℕ → Bool) (n k m : ℕ) → lowest p n k ≡ Some m → LowestOf p n k m
 unfolding lowest
 lowest-some p zero k m e = let z : ◌≡◌ {A = ℕ} 0 1 = cc in absurd (omega arith)
 lowest-some p (suc n) k m e =
@@ -139,7 +138,7 @@ lowest-some p (suc n) k m e =
     (λ t. lowest-later p n k m t (lowest-some p n (k + 1) m (sym (lowest-false p n k t) ∙ e)))
 
 -- where one of them passes, there is a lowest
-pub lowest-exists : (p : ℕ → Bool) (n k m : ℕ) → k ≤ m → m < k + n → p m ≡ true → (r : ℕ) × (lowest p n k ≡ some r)
+pub lowest-exists : (p : ℕ → Bool) (n k m : ℕ) → k ≤ m → m < k + n → p m ≡ true → (r : ℕ) × (lowest p n k ≡ Some r)
 unfolding lowest
 lowest-exists p zero k m a b e = absurd (omega arith)
 lowest-exists p (suc n) k m a b e =
@@ -149,12 +148,12 @@ lowest-exists p (suc n) k m a b e =
 
 -- a loop that looks for it, from k up to but not at end
 module _ (p : ℕ → Bool) (end k : ℕ) {a : Option ℕ} (v : lowest p (end - k) k ≡ a) where
-  pub lowest-found : k < end → p k ≡ true → some k ≡ a
+  pub lowest-found : k < end → p k ≡ true → Some k ≡ a
   lowest-found h e = let s : end - k ≡ suc (end - (k + 1)) = omega arith in sym (rw s (lowest-true p (end - (k + 1)) k e)) ∙ v
 
   pub lowest-on : k < end → p k ≡ false → lowest p (end - (k + 1)) (k + 1) ≡ a
   lowest-on h e = let s : end - k ≡ suc (end - (k + 1)) = omega arith in sym (rw s (lowest-false p (end - (k + 1)) k e)) ∙ v
 
-  pub lowest-end : end ≤ k → none ≡ a
+  pub lowest-end : end ≤ k → None ≡ a
   unfolding lowest
   lowest-end h = let s : end - k ≡ 0 = omega arith in sym (rw s) ∙ v

@@ -3,10 +3,9 @@ use Rattle.std.proofs.Math.ListN as ListN
 use Prim.Native.Nat.{ℕ, suc, ◌+◌, ◌<◌, zero}
 use Rattle.std.proofs.Math.Path.{◌≡◌, refl, sym, ap}
 use Rattle.std.proofs.Common.{◌∙◌, add-one, take-suc, le_of_suc-le-suc, not-suc-le-zero}
-use Rattle.std.specs.Prelude.{Bool, ◌||◌, get_or, take, set}
+use Rattle.std.specs.Prelude.{Bool, ◌||◌, get_or, take, set, Option, None, Some}
 use Rattle.std.proofs.Math.Bool.{true, false}
 use mathlib.Core.List.{List, [], ◌∷◌, ◌++◌}
-use Rattle.std.proofs.Math.Option.{Option, none, some}
 use native.Mathlib.Omega.{arith}
 use Rattle.std.proofs.Math.ListN.{length}
 use Rattle.lists.specs.Tests.{by-test, contrary, or_not_left, or_not_right}
@@ -23,7 +22,7 @@ module _ {A : Type 0} where
   unfolding all
   all-turn p xs d i h e f = rw (take_turn xs d i h, all_append p (take i xs) (get_or xs i d ∷ []), e, f)
 
-  pub find-append_some : (p : A → Bool) (xs ys : List A) (a : A) → find p xs ≡ some a → find p (xs ++ ys) ≡ some a
+  pub find-append_some : (p : A → Bool) (xs ys : List A) (a : A) → find p xs ≡ Some a → find p (xs ++ ys) ≡ Some a
   unfolding find
   find-append_some p [] ys a e = let z : ◌≡◌ {A = ℕ} 0 1 = cc in absurd (omega arith)
   find-append_some p (x ∷ xs) ys a e =
@@ -36,7 +35,7 @@ module _ {A : Type 0} where
   find-append_none p [] ys e = refl
   find-append_none p (x ∷ xs) ys e = find-cons_false p x (xs ++ ys) (or_not_left (p x) (any p xs) e) ∙ find-append_none p xs ys (or_not_right (p x) (any p xs) e)
 
-  pub seek-append_some : (p : A → Bool) (i : ℕ) (xs ys : List A) (n : ℕ) → seek p i xs ≡ some n → seek p i (xs ++ ys) ≡ some n
+  pub seek-append_some : (p : A → Bool) (i : ℕ) (xs ys : List A) (n : ℕ) → seek p i xs ≡ Some n → seek p i (xs ++ ys) ≡ Some n
   unfolding seek
   seek-append_some p i [] ys n e = let z : ◌≡◌ {A = ℕ} 0 1 = cc in absurd (omega arith)
   seek-append_some p i (x ∷ xs) ys n e =
@@ -59,8 +58,8 @@ module _ {A : Type 0} where
   seek-append_other p i xs a e = go (seek p i xs) refl
     where
       go : (o : Option ℕ) → seek p i xs ≡ o → seek p i (xs ++ a ∷ []) ≡ seek p i xs
-      go none f = seek-append_none p i xs (a ∷ []) (seek-none p i xs f) ∙ seek-cons_false p (i + length xs) a [] e ∙ sym f
-      go (some k) f = seek-append_some p i xs (a ∷ []) k f ∙ sym f
+      go None f = seek-append_none p i xs (a ∷ []) (seek-none p i xs f) ∙ seek-cons_false p (i + length xs) a [] e ∙ sym f
+      go (Some k) f = seek-append_some p i xs (a ∷ []) k f ∙ sym f
 
   -- one more element clashes with one before it
   pub clashes-append : (p : A → A → Bool) (xs : List A) (a : A) → clashes p (xs ++ a ∷ []) ≡ (clashes p xs || any (λ x. p x a) xs)

@@ -4,10 +4,9 @@
 use Prim.Native.Nat.{ℕ, zero, suc, ◌+◌, ◌≤◌, ◌<◌}
 use Rattle.std.proofs.Math.Path.{◌≡◌, refl, sym, ap}
 use Rattle.std.proofs.Common.{◌∙◌, le_of_suc-le-suc, not-suc-le-zero, add-one, drop_of_length-le, drop-cons}
-use Rattle.std.specs.Prelude.{Bool, not, ◌&&◌, ◌||◌, length, get_or, drop}
+use Rattle.std.specs.Prelude.{Bool, not, ◌&&◌, ◌||◌, length, get_or, drop, Option, None, Some}
 use Rattle.std.proofs.Math.Bool.{true, false}
 use mathlib.Core.List.{List, [], ◌∷◌, ◌++◌}
-use Rattle.std.proofs.Math.Option.{Option, none, some}
 use native.Mathlib.Omega.{arith}
 use Rattle.lists.specs.Tests.{by-test, contrary, and_left, and_right, and_both, or_left, or_right, or_not_left, or_not_right, or_other}
 
@@ -163,10 +162,10 @@ module _ {A : Type 0} where
   -- ---- the first element that passes
 
   unfoldable pub find : (A → Bool) → List A → Option A
-  find p [] = none
-  find p (x ∷ xs) = elim (p x) [ true ↦ some x | false ↦ find p xs ]
+  find p [] = None
+  find p (x ∷ xs) = elim (p x) [ true ↦ Some x | false ↦ find p xs ]
 
-  pub find-cons_true : (p : A → Bool) (x : A) (xs : List A) → p x ≡ true → find p (x ∷ xs) ≡ some x
+  pub find-cons_true : (p : A → Bool) (x : A) (xs : List A) → p x ≡ true → find p (x ∷ xs) ≡ Some x
   unfolding find
   find-cons_true p x xs e = rw (e, find)
 
@@ -175,7 +174,7 @@ module _ {A : Type 0} where
   find-cons_false p x xs e = rw (e, find)
 
   -- what is found passes
-  pub find-some : (p : A → Bool) (xs : List A) (a : A) → find p xs ≡ some a → p a ≡ true
+  pub find-some : (p : A → Bool) (xs : List A) (a : A) → find p xs ≡ Some a → p a ≡ true
   unfolding find
   find-some p [] a e = let z : ◌≡◌ {A = ℕ} 0 1 = cc in absurd (omega arith)
   find-some p (x ∷ xs) a e =
@@ -184,7 +183,7 @@ module _ {A : Type 0} where
       (λ t. find-some p xs a (sym (find-cons_false p x xs t) ∙ e))
 
   -- and has a place
-  pub find-slot : (p : A → Bool) (xs : List A) (d a : A) → find p xs ≡ some a → (i : ℕ) × (i < length xs) × (get_or xs i d ≡ a)
+  pub find-slot : (p : A → Bool) (xs : List A) (d a : A) → find p xs ≡ Some a → (i : ℕ) × (i < length xs) × (get_or xs i d ≡ a)
   unfolding find
   find-slot p [] d a e = let z : ◌≡◌ {A = ℕ} 0 1 = cc in absurd (omega arith)
   find-slot p (x ∷ xs) d a e =
@@ -193,7 +192,7 @@ module _ {A : Type 0} where
       (λ t. let r = find-slot p xs d a (sym (find-cons_false p x xs t) ∙ e) in (suc r.0, omega (arith, r.1), r.2))
 
   -- and is an element: what no element passes, it does not
-  pub find-some_any : (p q : A → Bool) (xs : List A) (a : A) → find p xs ≡ some a → any q xs ≡ false → q a ≡ false
+  pub find-some_any : (p q : A → Bool) (xs : List A) (a : A) → find p xs ≡ Some a → any q xs ≡ false → q a ≡ false
   unfolding find any
   find-some_any p q [] a e n = let z : ◌≡◌ {A = ℕ} 0 1 = cc in absurd (omega arith)
   find-some_any p q (x ∷ xs) a e n =
@@ -201,7 +200,7 @@ module _ {A : Type 0} where
       (λ t. let f = find-cons_true p x xs t in let same : x ≡ a = cc in rw (← same) (or_not_left (q x) (any q xs) n))
       (λ t. find-some_any p q xs a (sym (find-cons_false p x xs t) ∙ e) (or_not_right (q x) (any q xs) n))
 
-  pub find-some_all : (p q : A → Bool) (xs : List A) (a : A) → find p xs ≡ some a → all q xs ≡ true → q a ≡ true
+  pub find-some_all : (p q : A → Bool) (xs : List A) (a : A) → find p xs ≡ Some a → all q xs ≡ true → q a ≡ true
   unfolding find all
   find-some_all p q [] a e n = let z : ◌≡◌ {A = ℕ} 0 1 = cc in absurd (omega arith)
   find-some_all p q (x ∷ xs) a e n =
@@ -209,7 +208,7 @@ module _ {A : Type 0} where
       (λ t. let f = find-cons_true p x xs t in let same : x ≡ a = cc in rw (← same) (and_left (q x) (all q xs) n))
       (λ t. find-some_all p q xs a (sym (find-cons_false p x xs t) ∙ e) (and_right (q x) (all q xs) n))
 
-  pub find_none : (p : A → Bool) (xs : List A) → find p xs ≡ none → any p xs ≡ false
+  pub find_none : (p : A → Bool) (xs : List A) → find p xs ≡ None → any p xs ≡ false
   unfolding any
   find_none p [] e = refl
   find_none p (x ∷ xs) e =
@@ -217,13 +216,13 @@ module _ {A : Type 0} where
       (λ t. let f = find-cons_true p x xs t in let z : ◌≡◌ {A = ℕ} 0 1 = cc in absurd (omega arith))
       (λ t. rw t (find_none p xs (sym (find-cons_false p x xs t) ∙ e)))
 
-  pub find-any_false : (p : A → Bool) (xs : List A) → any p xs ≡ false → find p xs ≡ none
+  pub find-any_false : (p : A → Bool) (xs : List A) → any p xs ≡ false → find p xs ≡ None
   unfolding any find
   find-any_false p [] e = refl
   find-any_false p (x ∷ xs) e = find-cons_false p x xs (or_not_left (p x) (any p xs) e) ∙ find-any_false p xs (or_not_right (p x) (any p xs) e)
 
   -- where something passes, something is found
-  pub find-any_true : (p : A → Bool) (xs : List A) → any p xs ≡ true → (a : A) × (find p xs ≡ some a)
+  pub find-any_true : (p : A → Bool) (xs : List A) → any p xs ≡ true → (a : A) × (find p xs ≡ Some a)
   unfolding any
   find-any_true p [] e = contrary false e refl
   find-any_true p (x ∷ xs) e =
@@ -232,23 +231,23 @@ module _ {A : Type 0} where
       (λ t. let r = find-any_true p xs (or_other (p x) (any p xs) e t) in (r.0, find-cons_false p x xs t ∙ r.1))
 
   module _ (p : A → Bool) (xs : List A) (i : ℕ) {k : Option A} (v : find p (drop i xs) ≡ k) where
-    pub find-found : (d : A) → i < length xs → p (get_or xs i d) ≡ true → some (get_or xs i d) ≡ k
+    pub find-found : (d : A) → i < length xs → p (get_or xs i d) ≡ true → Some (get_or xs i d) ≡ k
     find-found d h e = sym (ap (find p) (drop_turn xs d i h) ∙ find-cons_true p (get_or xs i d) (drop (i + 1) xs) e) ∙ v
 
     pub find-on : (d : A) → i < length xs → p (get_or xs i d) ≡ false → find p (drop (i + 1) xs) ≡ k
     find-on d h e = sym (ap (find p) (drop_turn xs d i h) ∙ find-cons_false p (get_or xs i d) (drop (i + 1) xs) e) ∙ v
 
-    pub find-end : length xs ≤ i → none ≡ k
+    pub find-end : length xs ≤ i → None ≡ k
     unfolding find
     find-end h = sym (rw (drop_of_length-le xs h)) ∙ v
 
   -- ---- the place of the first element that passes, where the first element has the place i
 
   unfoldable pub seek : (A → Bool) → ℕ → List A → Option ℕ
-  seek p i [] = none
-  seek p i (x ∷ xs) = elim (p x) [ true ↦ some i | false ↦ seek p (i + 1) xs ]
+  seek p i [] = None
+  seek p i (x ∷ xs) = elim (p x) [ true ↦ Some i | false ↦ seek p (i + 1) xs ]
 
-  pub seek-cons_true : (p : A → Bool) (i : ℕ) (x : A) (xs : List A) → p x ≡ true → seek p i (x ∷ xs) ≡ some i
+  pub seek-cons_true : (p : A → Bool) (i : ℕ) (x : A) (xs : List A) → p x ≡ true → seek p i (x ∷ xs) ≡ Some i
   unfolding seek
   seek-cons_true p i x xs e = rw (e, seek)
 
@@ -257,7 +256,7 @@ module _ {A : Type 0} where
   seek-cons_false p i x xs e = rw (e, seek)
 
   -- the place lies in the list
-  pub seek-some_lt : (p : A → Bool) (i : ℕ) (xs : List A) (n : ℕ) → seek p i xs ≡ some n → (i ≤ n) × (n < i + length xs)
+  pub seek-some_lt : (p : A → Bool) (i : ℕ) (xs : List A) (n : ℕ) → seek p i xs ≡ Some n → (i ≤ n) × (n < i + length xs)
   unfolding seek
   seek-some_lt p i [] n e = let z : ◌≡◌ {A = ℕ} 0 1 = cc in absurd (omega arith)
   seek-some_lt p i (x ∷ xs) n e =
@@ -266,32 +265,32 @@ module _ {A : Type 0} where
       (λ t. let r = seek-some_lt p (i + 1) xs n (sym (seek-cons_false p i x xs t) ∙ e) in (omega (arith, r.0), omega (arith, r.1)))
 
   -- its element passes
-  pub seek-some_at : (p : A → Bool) (i : ℕ) (xs : List A) (d : A) (n : ℕ) → seek p i xs ≡ some (i + n) → p (get_or xs n d) ≡ true
+  pub seek-some_at : (p : A → Bool) (i : ℕ) (xs : List A) (d : A) (n : ℕ) → seek p i xs ≡ Some (i + n) → p (get_or xs n d) ≡ true
   unfolding seek
   seek-some_at p i [] d n e = let z : ◌≡◌ {A = ℕ} 0 1 = cc in absurd (omega arith)
   seek-some_at p i (x ∷ xs) d n e =
       by-test (p x)
       (λ t. let f = seek-cons_true p i x xs t in let same : i ≡ i + n = cc in let z : n ≡ 0 = omega arith in rw z t)
-      (λ t. let f : seek p (i + 1) xs ≡ some (i + n) = sym (seek-cons_false p i x xs t) ∙ e in later n f (seek-some_lt p (i + 1) xs (i + n) f).0 (seek-some_at p (i + 1) xs d))
+      (λ t. let f : seek p (i + 1) xs ≡ Some (i + n) = sym (seek-cons_false p i x xs t) ∙ e in later n f (seek-some_lt p (i + 1) xs (i + n) f).0 (seek-some_at p (i + 1) xs d))
     where
-      later : (n : ℕ) → seek p (i + 1) xs ≡ some (i + n) → i + 1 ≤ i + n → ((m : ℕ) → seek p (i + 1) xs ≡ some (i + 1 + m) → p (get_or xs m d) ≡ true) → p (get_or (x ∷ xs) n d) ≡ true
+      later : (n : ℕ) → seek p (i + 1) xs ≡ Some (i + n) → i + 1 ≤ i + n → ((m : ℕ) → seek p (i + 1) xs ≡ Some (i + 1 + m) → p (get_or xs m d) ≡ true) → p (get_or (x ∷ xs) n d) ≡ true
       later zero f h rec = absurd (omega arith)
-      later (suc m) f h rec = let s : i + suc m ≡ i + 1 + m = omega arith in rec m (f ∙ ap some s)
+      later (suc m) f h rec = let s : i + suc m ≡ i + 1 + m = omega arith in rec m (f ∙ ap Some s)
 
   -- no element before it does
-  pub seek-some_before : (p : A → Bool) (i : ℕ) (xs : List A) (d : A) (n m : ℕ) → seek p i xs ≡ some n → i + m < n → p (get_or xs m d) ≡ false
+  pub seek-some_before : (p : A → Bool) (i : ℕ) (xs : List A) (d : A) (n m : ℕ) → seek p i xs ≡ Some n → i + m < n → p (get_or xs m d) ≡ false
   unfolding seek
   seek-some_before p i [] d n m e h = let z : ◌≡◌ {A = ℕ} 0 1 = cc in absurd (omega arith)
   seek-some_before p i (x ∷ xs) d n m e h =
       by-test (p x)
       (λ t. let f = seek-cons_true p i x xs t in let same : i ≡ n = cc in absurd (omega arith))
-      (λ t. let f : seek p (i + 1) xs ≡ some n = sym (seek-cons_false p i x xs t) ∙ e in later m h t (λ k. seek-some_before p (i + 1) xs d n k f))
+      (λ t. let f : seek p (i + 1) xs ≡ Some n = sym (seek-cons_false p i x xs t) ∙ e in later m h t (λ k. seek-some_before p (i + 1) xs d n k f))
     where
       later : (m : ℕ) → i + m < n → p x ≡ false → ((k : ℕ) → i + 1 + k < n → p (get_or xs k d) ≡ false) → p (get_or (x ∷ xs) m d) ≡ false
       later zero h t rec = t
       later (suc k) h t rec = rec k (omega arith)
 
-  pub seek-none : (p : A → Bool) (i : ℕ) (xs : List A) → seek p i xs ≡ none → any p xs ≡ false
+  pub seek-none : (p : A → Bool) (i : ℕ) (xs : List A) → seek p i xs ≡ None → any p xs ≡ false
   unfolding any
   seek-none p i [] e = refl
   seek-none p i (x ∷ xs) e =
@@ -299,18 +298,18 @@ module _ {A : Type 0} where
       (λ t. let f = seek-cons_true p i x xs t in let z : ◌≡◌ {A = ℕ} 0 1 = cc in absurd (omega arith))
       (λ t. rw t (seek-none p (i + 1) xs (sym (seek-cons_false p i x xs t) ∙ e)))
 
-  pub seek-any_false : (p : A → Bool) (i : ℕ) (xs : List A) → any p xs ≡ false → seek p i xs ≡ none
+  pub seek-any_false : (p : A → Bool) (i : ℕ) (xs : List A) → any p xs ≡ false → seek p i xs ≡ None
   unfolding any seek
   seek-any_false p i [] e = refl
   seek-any_false p i (x ∷ xs) e = seek-cons_false p i x xs (or_not_left (p x) (any p xs) e) ∙ seek-any_false p (i + 1) xs (or_not_right (p x) (any p xs) e)
 
   module _ (p : A → Bool) (xs : List A) (i : ℕ) {k : Option ℕ} (v : seek p i (drop i xs) ≡ k) where
-    pub seek_found : (d : A) → i < length xs → p (get_or xs i d) ≡ true → some i ≡ k
+    pub seek_found : (d : A) → i < length xs → p (get_or xs i d) ≡ true → Some i ≡ k
     seek_found d h e = sym (ap (seek p i) (drop_turn xs d i h) ∙ seek-cons_true p i (get_or xs i d) (drop (i + 1) xs) e) ∙ v
 
     pub seek-on : (d : A) → i < length xs → p (get_or xs i d) ≡ false → seek p (i + 1) (drop (i + 1) xs) ≡ k
     seek-on d h e = sym (ap (seek p i) (drop_turn xs d i h) ∙ seek-cons_false p i (get_or xs i d) (drop (i + 1) xs) e) ∙ v
 
-    pub seek-end : length xs ≤ i → none ≡ k
+    pub seek-end : length xs ≤ i → None ≡ k
     unfolding seek
     seek-end h = sym (rw (drop_of_length-le xs h)) ∙ v

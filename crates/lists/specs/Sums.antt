@@ -1,10 +1,9 @@
 -- The sum of a weight over the elements of a list, and the elements that pass a test.
 use Prim.Native.Nat.{ℕ, zero, suc, ◌+◌, ◌*◌, ◌≤◌, ◌<◌, zero-le}
-use Rattle.std.specs.Prelude.{◌≡◌, Bool, true, false, ◌&&◌, ◌||◌, cond, ltb, length, get_or, replicate}
+use Rattle.std.specs.Prelude.{◌≡◌, Bool, true, false, ◌&&◌, ◌||◌, cond, ltb, length, get_or, replicate, Some}
 use Rattle.std.proofs.Math.Path.{refl}
 use Rattle.std.proofs.Common.{ap, ◌∙◌, le_of_suc-le-suc, not-suc-le-zero}
 use mathlib.Core.List.{List, [], ◌∷◌, ◌++◌}
-use Rattle.std.proofs.Math.Option.{some}
 use Rattle.std.proofs.Math.Nat.{suc-mul}
 use native.Mathlib.Omega.{arith}
 use borrow.Author.Tests.{ltb-true, lt-ltb}
@@ -84,7 +83,7 @@ module _ {A : Type 0} where
   count_of-length p (x ∷ xs) = by-test (p x) (λ e. rw e (omega (arith, count_of-length p xs))) (λ e. rw e (omega (arith, count_of-length p xs)))
 
   -- at most one element passes q, and p is narrower than q: the element that passes p is the one that is found
-  pub find-only : (p q : A → Bool) → ((x : A) → p x ≡ true → q x ≡ true) → (xs : List A) (d : A) → count_of q xs ≤ 1 → (i : ℕ) → i < length xs → p (get_or xs i d) ≡ true → find p xs ≡ some (get_or xs i d)
+  pub find-only : (p q : A → Bool) → ((x : A) → p x ≡ true → q x ≡ true) → (xs : List A) (d : A) → count_of q xs ≤ 1 → (i : ℕ) → i < length xs → p (get_or xs i d) ≡ true → find p xs ≡ Some (get_or xs i d)
   unfolding count_of sum_of
   find-only p q h [] d c i l e = absurd (not-suc-le-zero l)
   find-only p q h (x ∷ xs) d c zero l e = find-cons_true p x xs e

@@ -1,4 +1,5 @@
 -- The run from a start, the starts past the ranges of one slot, and the windows.
+use Rattle.std.specs.Prelude.{Option, None, Some}
 use Prim.Native.Nat.{ℕ, ◌+◌, ◌-◌, ◌≤◌, ◌<◌, zero-le, min}
 use mathlib.Core.Path.{◌≡◌, refl, sym, ap, ◌∙◌}
 use mathlib.Core.Bool.{false}
@@ -11,14 +12,11 @@ use Rattle.lists.specs.Tests.{and_not_right}
 use Rattle.lists.specs.Search.{drop_turn}
 use Rattle.ranges.specs.declared.Range.{Range}
 use Rattle.ranges.specs.Ranges.{U64MAX, range}
-use Rattle.alignment.specs.declared.Spot.{Spot}
-use Rattle.alignment.specs.declared.Spot.TheVariants.{Nowhere, At}
 use Rattle.alignment.specs.Multiples.{multiple, round_up, lowest_multiple}
 use Rattle.rangelists.specs.declared.Allowed.{Allowed}
 use Rattle.rangelists.specs.Listed.{allowed, listed, length-listed, get_d_listed, zero_range}
 use Rattle.runs.specs.declared.Run.{Run}
-use Rattle.runs.specs.declared.Run.TheVariants.{Nothing, Of}
-use Rattle.runs.specs.Runs.{better, free_to, run_from, over, past_range, in_window, windows, longest_of}
+use Rattle.runs.specs.Runs.{run, better, free_to, run_from, over, past_range, in_window, windows, longest_of}
 use Rattle.runs.specs.Longest.{free-sound, multiple-at, over-append}
 use Rattle.rules_table.specs.declared.Object.{Object}
 use Rattle.rules_table.specs.declared.Mapping.{Mapping}
@@ -30,48 +28,48 @@ use Rattle.longest_run.specs.Parts.{extents_of, blocked_parts}
 
 -- ---- the run from a start
 
-module _ (a u : ℕ) (blocked : List Range) (w : Range) (s : Spot) (e : s ≡ lowest_multiple a u) where
-  pub from-none : s ≡ Nowhere → Nothing ≡ run_from a lowest_tried blocked w u
+module _ (a u : ℕ) (blocked : List Range) (w : Range) (s : Option ℕ) (e : s ≡ lowest_multiple a u) where
+  pub from-none : s ≡ None → None ≡ run_from a lowest_tried blocked w u
   unfolding run_from
   from-none f = rw (← e, f)
 
-  module _ (x : ℕ) (f : s ≡ At x) where
-    pub from-before : x < w.start → Nothing ≡ run_from a lowest_tried blocked w u
+  module _ (x : ℕ) (f : s ≡ Some x) where
+    pub from-before : x < w.start → None ≡ run_from a lowest_tried blocked w u
     unfolding run_from
     from-before h = rw (← e, f, lt-leb w.start x h, and_not_right (leb lowest_tried x) false refl)
 
-    pub from_past : w.last < x → Nothing ≡ run_from a lowest_tried blocked w u
+    pub from_past : w.last < x → None ≡ run_from a lowest_tried blocked w u
     unfolding run_from
     from_past h = rw (← e, f, lt-leb x w.last h, and_not_right (leb w.start x) false refl, and_not_right (leb lowest_tried x) false refl)
 
-    module _ (i : w.start ≤ x) (j : x ≤ w.last) (t : Spot) (g : t ≡ free_to U64MAX x blocked) where
-      pub from-taken : t ≡ Nowhere → Nothing ≡ run_from a lowest_tried blocked w u
+    module _ (i : w.start ≤ x) (j : x ≤ w.last) (t : Option ℕ) (g : t ≡ free_to U64MAX x blocked) where
+      pub from-taken : t ≡ None → None ≡ run_from a lowest_tried blocked w u
       unfolding run_from
       from-taken k = rw (← e, f, le-leb lowest_tried x zero-le, le-leb w.start x i, le-leb x w.last j, ← g, k)
 
-      pub from_last : (z : ℕ) → t ≡ At z → x ≤ z
+      pub from_last : (z : ℕ) → t ≡ Some z → x ≤ z
       from_last z k = (free-sound x U64MAX blocked z (multiple-at a u x (sym e ∙ f)).1 (sym g ∙ k)).from
 
-      pub from-run : (z m : ℕ) → t ≡ At z → m ≡ min z w.last - x → Of x m ≡ run_from a lowest_tried blocked w u
+      pub from-run : (z m : ℕ) → t ≡ Some z → m ≡ min z w.last - x → Some (run x m) ≡ run_from a lowest_tried blocked w u
       unfolding run_from
       from-run z m k q = rw (← e, f, le-leb lowest_tried x zero-le, le-leb w.start x i, le-leb x w.last j, ← g, k, q)
 
 -- past the last address nothing starts
-pub from_end : (a low : ℕ) (blocked : List Range) (w : Range) (last : ℕ) → last ≡ U64MAX → Nothing ≡ run_from a low blocked w (last + 1)
+pub from_end : (a low : ℕ) (blocked : List Range) (w : Range) (last : ℕ) → last ≡ U64MAX → None ≡ run_from a low blocked w (last + 1)
 unfolding run_from lowest_multiple round_up
 from_end a low blocked w last e =
     rw (and_not_right (multiple a (round_up a (last + 1))) (ltb (round_up a (last + 1)) 0x1_0000_0000_0000_0000) (le-ltb (round_up a (last + 1)) 0x1_0000_0000_0000_0000 (omega arith)))
 
 -- ---- the ranges of a list, one after another
 
-abbrev pub Trying : (Run → Range → Run) → List Range → Run → Run → ℕ → Type 0
+abbrev pub Trying : (Option Run → Range → Option Run) → List Range → Option Run → Option Run → ℕ → Type 0
 Trying g qs before r i = over g r (drop i qs) ≡ over g before qs
 
-module _ (g : Run → Range → Run) (n : ℕ) (ss ls : List ℕ) (hs : n ≤ length ss) (hl : n ≤ length ls) (before r : Run) (i : ℕ) (inv : Trying g (listed n ss ls) before r i) where
-  pub try_on : i < n → (q : Run) → q ≡ g r (range (get_or ss i 0) (get_or ls i 0)) → Trying g (listed n ss ls) before q (i + 1)
+module _ (g : Option Run → Range → Option Run) (n : ℕ) (ss ls : List ℕ) (hs : n ≤ length ss) (hl : n ≤ length ls) (before r : Option Run) (i : ℕ) (inv : Trying g (listed n ss ls) before r i) where
+  pub try_on : i < n → (q : Option Run) → q ≡ g r (range (get_or ss i 0) (get_or ls i 0)) → Trying g (listed n ss ls) before q (i + 1)
   unfolding over
   try_on h q e =
-      ap (λ (t : Run). over g t (drop (i + 1) (listed n ss ls))) (e ∙ ap (g r) (sym (get_d_listed n ss ls hs hl i h)))
+      ap (λ (t : Option Run). over g t (drop (i + 1) (listed n ss ls))) (e ∙ ap (g r) (sym (get_d_listed n ss ls hs hl i h)))
       ∙ sym (ap (over g r) (drop_turn (listed n ss ls) zero_range i (omega (arith, length-listed n ss ls hs hl))))
       ∙ inv
 
@@ -83,14 +81,14 @@ module _ (g : Run → Range → Run) (n : ℕ) (ss ls : List ℕ) (hs : n ≤ le
   try_end h = sym (ap (over g r) (drop_of_length-le (listed n ss ls) (done h))) ∙ inv
 
 -- past a blocked range, of which the last address is enough
-pub past_is : (a low : ℕ) (blocked : List Range) (w : Range) (r : Run) (start last : ℕ) (p q : Run) → p ≡ run_from a low blocked w (last + 1) → q ≡ better r p → q ≡ past_range a low blocked w r (range start last)
+pub past_is : (a low : ℕ) (blocked : List Range) (w : Range) (r : Option Run) (start last : ℕ) (p q : Option Run) → p ≡ run_from a low blocked w (last + 1) → q ≡ better r p → q ≡ past_range a low blocked w r (range start last)
 unfolding past_range
 past_is a low blocked w r start last p q e f = f ∙ ap (better r) e
 
 -- ---- the windows
 
 module _ (os : List Object) (ms : List Mapping) (s a : ℕ) (w : Range) where
-  pub window_is : (before lowest first both best past r : Run)
+  pub window_is : (before lowest first both best past r : Option Run)
       → lowest ≡ run_from a lowest_tried (blocked_in os ms s) w lowest_tried
       → first ≡ run_from a lowest_tried (blocked_in os ms s) w w.start
       → both ≡ better before lowest
@@ -101,13 +99,13 @@ module _ (os : List Object) (ms : List Mapping) (s a : ℕ) (w : Range) where
   unfolding in_window
   window_is before lowest first both best past r e1 e2 e3 e4 e5 e6 =
       e6
-      ∙ ap (λ (t : Run). over (past_range a lowest_tried (blocked_in os ms s) w) t (extents_of ms s)) e5
+      ∙ ap (λ (t : Option Run). over (past_range a lowest_tried (blocked_in os ms s) w) t (extents_of ms s)) e5
       ∙ sym (over-append (past_range a lowest_tried (blocked_in os ms s) w) best (reserved_of os s) (extents_of ms s))
       ∙ ap (over (past_range a lowest_tried (blocked_in os ms s) w) best) (sym (blocked_parts os ms s))
-      ∙ ap (λ (t : Run). over (past_range a lowest_tried (blocked_in os ms s) w) t (blocked_in os ms s)) begun
+      ∙ ap (λ (t : Option Run). over (past_range a lowest_tried (blocked_in os ms s) w) t (blocked_in os ms s)) begun
     where
       begun : best ≡ better (better before (run_from a lowest_tried (blocked_in os ms s) w lowest_tried)) (run_from a lowest_tried (blocked_in os ms s) w w.start)
-      begun = e4 ∙ ap (λ (t : Run). better t first) (e3 ∙ ap (better before) e1) ∙ ap (better (better before (run_from a lowest_tried (blocked_in os ms s) w lowest_tried))) e2
+      begun = e4 ∙ ap (λ (t : Option Run). better t first) (e3 ∙ ap (better before) e1) ∙ ap (better (better before (run_from a lowest_tried (blocked_in os ms s) w lowest_tried))) e2
 
 none-listed : (qs : List Range) → length qs ≡ 0 → windows qs ≡ (range 0 U64MAX ∷ [])
 unfolding windows
@@ -120,7 +118,7 @@ some-listed [] h = absurd (omega arith)
 some-listed (q ∷ qs) h = refl
 
 -- the ranges in use of an allow list
-pub list_is : (q : Allowed) (g : Run → Range → Run) (n : ℕ) → n ≡ min q.count 8 → (before r : Run) → r ≡ over g before (listed n q.starts q.lasts) → r ≡ over g before (allowed q)
+pub list_is : (q : Allowed) (g : Option Run → Range → Option Run) (n : ℕ) → n ≡ min q.count 8 → (before r : Option Run) → r ≡ over g before (listed n q.starts q.lasts) → r ≡ over g before (allowed q)
 unfolding allowed
 list_is q g n e before r f = rw (← e) f
 
@@ -130,15 +128,15 @@ module _ (os : List Object) (ms : List Mapping) (s a : ℕ) (q : Allowed) (ss : 
   unfolding allowed
   many = length-listed (min q.count 8) q.starts q.lasts (omega arith) (omega arith)
 
-  module _ (r : Run) (ea : a ≡ alignment os s) (eq : q ≡ (object_at os s).allow) where
+  module _ (r : Option Run) (ea : a ≡ alignment os s) (eq : q ≡ (object_at os s).allow) where
     told : r ≡ longest_of a lowest_tried (blocked_in os ms s) (allowed q) → r ≡ longest_in os ms s
     unfolding longest_in
     told e = e ∙ ap (λ (b : ℕ). longest_of b lowest_tried (blocked_in os ms s) (allowed q)) ea ∙ ap (λ (l : Allowed). longest_of (alignment os s) lowest_tried (blocked_in os ms s) (allowed l)) eq
 
-    pub longest_open : q.count ≡ 0 → (none : Run) (w : Range) → none ≡ Nothing → w ≡ range 0 U64MAX → r ≡ in_window a lowest_tried (blocked_in os ms s) none w → r ≡ longest_in os ms s
+    pub longest_open : q.count ≡ 0 → (none : Option Run) (w : Range) → none ≡ None → w ≡ range 0 U64MAX → r ≡ in_window a lowest_tried (blocked_in os ms s) none w → r ≡ longest_in os ms s
     unfolding longest_of over
     longest_open z none w e1 e2 e3 = told (rw (none-listed (allowed q) (omega (arith, many))) (e3 ∙ rw (e1, e2)))
 
-    pub longest_listed : (q.count ≡ 0 → ⊥) → r ≡ over (in_window a lowest_tried (blocked_in os ms s)) Nothing (allowed q) → r ≡ longest_in os ms s
+    pub longest_listed : (q.count ≡ 0 → ⊥) → r ≡ over (in_window a lowest_tried (blocked_in os ms s)) None (allowed q) → r ≡ longest_in os ms s
     unfolding longest_of
     longest_listed z e = told (rw (some-listed (allowed q) (omega (arith, many, z))) e)

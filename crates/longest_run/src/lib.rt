@@ -1,10 +1,9 @@
 // The longest free run of a space, over the table as it lies in memory: no list of what is blocked is made. Each start that a longest run can have is tried.
 #![tactic(auto)]
 
-ghost use Rattle.std.specs.Prelude.{◌≡◌, ◌+◌, ◌<◌, length, get_or};
+ghost use Rattle.std.specs.Prelude.{◌≡◌, ◌+◌, ◌<◌, length, get_or, Option, Some, None};
 ghost use Rattle.ranges.specs.Ranges.{U64MAX};
 ghost use Rattle.rangelists.specs.Listed.{allowed};
-ghost use Rattle.runs.specs.declared.Run.TheVariants.{Nothing};
 ghost use Rattle.runs.specs.Runs.{free_to, run_from, over, past_range, in_window};
 ghost use Rattle.rules_table.specs.Records.{zero_object, object_at};
 ghost use Rattle.rules_table.specs.Spaces.{alignment, reserved_for, reserved_of};
@@ -14,7 +13,6 @@ ghost use Rattle.rules_reasons.specs.Reasons.{longest_in};
 ghost use Rattle.layout_mappings.specs.Words.{records_of, record_at};
 ghost use Rattle.longest_run.specs.Parts.{extent_for, extents_of};
 
-use alignment::Spot;
 use rangelists::Allowed;
 use ranges::{Range, U64MAX};
 use runs::Run;
@@ -28,7 +26,7 @@ const LOWEST_TRIED: u64 = 0;
 // ---- where the free addresses from x on end
 
 // What is free up to e is free up to the answer in view of what slot i reserves in space s.
-fn free_slot(h: &[u64; 865], i: usize, s: u32, e: u64, x: u64) -> Spot
+fn free_slot(h: &[u64; 865], i: usize, s: u32, e: u64, x: u64) -> Option<u64>
     requires { i < 32 }
     ensures { result ≡ free_to e x (reserved_for s (get_or (objects_in h.now) i zero_object)) }
 {
@@ -38,63 +36,59 @@ fn free_slot(h: &[u64; 865], i: usize, s: u32, e: u64, x: u64) -> Spot
 }
 
 // The same for all slots.
-fn free_reserved(h: &[u64; 865], s: u32, x: u64) -> Spot
+fn free_reserved(h: &[u64; 865], s: u32, x: u64) -> Option<u64>
     ensures { result ≡ free_to U64MAX x (reserved_of (objects_in h.now) s) }
 {
     let mut e: u64 = U64MAX;
-    let mut i: usize = 0;
-    while i < SLOTS {
+    for i in 0..SLOTS {
         let f = free_slot(h, i, s, e, x);
-        let Spot::At(z) = f else {
-            return Spot::Nowhere;
+        let Some(z) = f else {
+            return None;
         };
         e = z;
-        i += 1;
     }
-    Spot::At(e)
+    Some(e)
 }
 
 // The same for the mapping in record i, where it is of space s.
-fn free_record(ws: &[[u64; 5]], i: usize, s: u32, e: u64, x: u64) -> Spot
+fn free_record(ws: &[[u64; 5]], i: usize, s: u32, e: u64, x: u64) -> Option<u64>
     requires { i < length ws.now }
     ensures { result ≡ free_to e x (extent_for s (record_at ws.now i)) }
 {
     let m = layout_mappings::record(ws, i);
     if m.space != s {
-        return Spot::At(e);
+        return Some(e);
     }
     let q = ranges::span_of(m.address, m.length);
     let here = Range { start: x, last: x };
     if ranges::shares(here, q) {
-        return Spot::Nowhere;
+        return None;
     }
-    Spot::At(runs::cut_at(e, x, q))
+    Some(runs::cut_at(e, x, q))
 }
 
 // The same for all mappings of space s.
-fn free_mapped(ws: &[[u64; 5]], s: u32, upto: u64, x: u64) -> Spot
+fn free_mapped(ws: &[[u64; 5]], s: u32, upto: u64, x: u64) -> Option<u64>
     ensures { result ≡ free_to upto x (extents_of (records_of ws.now) s) }
 {
     let mut e = upto;
-    let mut i: usize = 0;
-    while i < ws.len() {
+    for i in 0..ws.len() {
         let f = free_record(ws, i, s, e, x);
-        let Spot::At(z) = f else {
-            return Spot::Nowhere;
+        let Some(z) = f else {
+            return None;
         };
         e = z;
-        i += 1;
     }
-    Spot::At(e)
+    Some(e)
 }
 
 // The last address such that all from x on are free in space s; nowhere, where x is not.
-fn free_from<'a>(h: &'a [u64; 865], ws: &'a [[u64; 5]], s: u32, x: u64) -> Spot
+fn free_from<'a>(h: &'a [u64; 865], ws: &'a [[u64; 5]], s: u32, x: u64) -> Option<u64>
     ensures { result ≡ free_to U64MAX x (blocked_in (objects_in h.now) (records_of ws.now) s) }
 {
     let f = free_reserved(h, s, x);
-    let Spot::At(z) = f else {
-        return Spot::Nowhere;
+    let Some(z) = f else {
+        return None;
     };
     free_mapped(ws, s, z, x)
 }
@@ -102,24 +96,31 @@ fn free_from<'a>(h: &'a [u64; 865], ws: &'a [[u64; 5]], s: u32, x: u64) -> Spot
 // ---- the run from a start
 
 // The longest run in the window that starts at the lowest multiple from u on. The window is asked first: nearly every start lies in one only.
-fn run_from<'a>(h: &'a [u64; 865], ws: &'a [[u64; 5]], s: u32, a: u64, window: Range, u: u64) -> Run
+fn run_from<'a>(
+    h: &'a [u64; 865],
+    ws: &'a [[u64; 5]],
+    s: u32,
+    a: u64,
+    window: Range,
+    u: u64,
+) -> Option<Run>
     ensures { result ≡ run_from a lowest_tried (blocked_in (objects_in h.now) (records_of ws.now) s) window u }
 {
     let m = alignment::lowest_multiple(a, u);
-    let Spot::At(x) = m else {
-        return Run::Nothing;
+    let Some(x) = m else {
+        return None;
     };
-    if x < window.start {
-        return Run::Nothing;
-    }
-    if window.last < x {
-        return Run::Nothing;
+    if x < window.start || window.last < x {
+        return None;
     }
     let f = free_from(h, ws, s, x);
-    let Spot::At(z) = f else {
-        return Run::Nothing;
+    let Some(z) = f else {
+        return None;
     };
-    Run::Of(x, ranges::lower(z, window.last) - x)
+    Some(Run {
+        start: x,
+        more: z.min(window.last) - x,
+    })
 }
 
 // The same past a range that ends at `last`.
@@ -130,11 +131,11 @@ fn run_past<'a>(
     a: u64,
     window: Range,
     last: u64,
-) -> Run
+) -> Option<Run>
     ensures { result ≡ run_from a lowest_tried (blocked_in (objects_in h.now) (records_of ws.now) s) window (last + 1) }
 {
     if last == U64MAX {
-        return Run::Nothing;
+        return None;
     }
     run_from(h, ws, s, a, window, last + 1)
 }
@@ -149,8 +150,8 @@ fn past_slot<'a>(
     a: u64,
     window: Range,
     i: usize,
-    before: Run,
-) -> Run
+    before: Option<Run>,
+) -> Option<Run>
     requires { i < 32 }
     ensures { result ≡ over (past_range a lowest_tried (blocked_in (objects_in h.now) (records_of ws.now) s) window) before
         (reserved_for s (get_or (objects_in h.now) i zero_object)) }
@@ -158,11 +159,9 @@ fn past_slot<'a>(
     let l = reserved_ranges::reserved_for(h, i, s);
     let n = rangelists::used(l.count, 4);
     let mut best = before;
-    let mut k: usize = 0;
-    while k < n {
+    for k in 0..n {
         let past = run_past(h, ws, s, a, window, l.lasts[k]);
         best = runs::better_of(best, past);
-        k += 1;
     }
     best
 }
@@ -174,16 +173,14 @@ fn past_reserved<'a>(
     s: u32,
     a: u64,
     window: Range,
-    before: Run,
-) -> Run
+    before: Option<Run>,
+) -> Option<Run>
     ensures { result ≡ over (past_range a lowest_tried (blocked_in (objects_in h.now) (records_of ws.now) s) window) before
         (reserved_of (objects_in h.now) s) }
 {
     let mut best = before;
-    let mut i: usize = 0;
-    while i < SLOTS {
+    for i in 0..SLOTS {
         best = past_slot(h, ws, s, a, window, i, best);
-        i += 1;
     }
     best
 }
@@ -196,8 +193,8 @@ fn past_record<'a>(
     a: u64,
     window: Range,
     i: usize,
-    before: Run,
-) -> Run
+    before: Option<Run>,
+) -> Option<Run>
     requires { i < length ws.now }
     ensures { result ≡ over (past_range a lowest_tried (blocked_in (objects_in h.now) (records_of ws.now) s) window) before
         (extent_for s (record_at ws.now i)) }
@@ -218,16 +215,14 @@ fn past_mapped<'a>(
     s: u32,
     a: u64,
     window: Range,
-    before: Run,
-) -> Run
+    before: Option<Run>,
+) -> Option<Run>
     ensures { result ≡ over (past_range a lowest_tried (blocked_in (objects_in h.now) (records_of ws.now) s) window) before
         (extents_of (records_of ws.now) s) }
 {
     let mut best = before;
-    let mut k: usize = 0;
-    while k < ws.len() {
+    for k in 0..ws.len() {
         best = past_record(h, ws, s, a, window, k, best);
-        k += 1;
     }
     best
 }
@@ -241,8 +236,8 @@ fn in_window<'a>(
     s: u32,
     a: u64,
     window: Range,
-    before: Run,
-) -> Run
+    before: Option<Run>,
+) -> Option<Run>
     ensures { result ≡ in_window a lowest_tried (blocked_in (objects_in h.now) (records_of ws.now) s) before window }
 {
     let lowest = run_from(h, ws, s, a, window, LOWEST_TRIED);
@@ -254,25 +249,29 @@ fn in_window<'a>(
 }
 
 // The best in the ranges of an allow list.
-fn in_list<'a>(h: &'a [u64; 865], ws: &'a [[u64; 5]], s: u32, a: u64, allow: Allowed) -> Run
-    ensures { result ≡ over (in_window a lowest_tried (blocked_in (objects_in h.now) (records_of ws.now) s)) Nothing (allowed allow) }
+fn in_list<'a>(h: &'a [u64; 865], ws: &'a [[u64; 5]], s: u32, a: u64, allow: Allowed) -> Option<Run>
+    ensures { result ≡ over (in_window a lowest_tried (blocked_in (objects_in h.now) (records_of ws.now) s)) None (allowed allow) }
 {
     let n = rangelists::used(allow.count, 8);
-    let mut best = Run::Nothing;
-    let mut i: usize = 0;
-    while i < n {
+    let mut best = None;
+    for i in 0..n {
         let window = Range {
             start: allow.starts[i],
             last: allow.lasts[i],
         };
         best = in_window(h, ws, s, a, window, best);
-        i += 1;
     }
     best
 }
 
 // The longest free run of space s, of alignment a: inside one range of the allow list, where that list is not empty.
-pub fn longest<'a>(h: &'a [u64; 865], ws: &'a [[u64; 5]], s: u32, a: u64, allow: Allowed) -> Run
+pub fn longest<'a>(
+    h: &'a [u64; 865],
+    ws: &'a [[u64; 5]],
+    s: u32,
+    a: u64,
+    allow: Allowed,
+) -> Option<Run>
     ensures { a ≡ alignment (objects_in h.now) s → allow ≡ (object_at (objects_in h.now) s).allow
         → result ≡ longest_in (objects_in h.now) (records_of ws.now) s }
 {
@@ -281,8 +280,7 @@ pub fn longest<'a>(h: &'a [u64; 865], ws: &'a [[u64; 5]], s: u32, a: u64, allow:
             start: 0,
             last: U64MAX,
         };
-        let none = Run::Nothing;
-        return in_window(h, ws, s, a, window, none);
+        return in_window(h, ws, s, a, window, None);
     }
     in_list(h, ws, s, a, allow)
 }

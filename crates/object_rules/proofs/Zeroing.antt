@@ -8,7 +8,7 @@ use lib.Bits.{bit_or, or_add_and, and_le_l, and_le_r, or_zero_l}
 use lib.Dec.{eqb}
 use lib.ListN.{length, get_or, drop, drop_of_length-le}
 use borrow.Author.Tests.{eqb-true, eq-eqb}
-use Rattle.lists.specs.Tests.{by-test, same_test, and_left, and_right, and_both}
+use Rattle.lists.specs.Tests.{same_test, and_left, and_right, and_both}
 use Rattle.lists.specs.Search.{all, drop_turn, all_cons, all_append}
 use Rattle.wire.specs.Fields.{zeros}
 use Rattle.rules_table.specs.declared.Object.{Object}
@@ -53,17 +53,11 @@ unfolding zeros
 zeros-row xs ys = all_append (λ b. eqb b 0) xs ys
 
 pub no-device : (o : Object) (ws : List ℕ) (z : Bool) → ws ≡ o.reserved.starts ++ o.reserved.lasts → z ≡ zeros ws
-    → (eqb o.bitmap 0 && (eqb o.reserved.count 0 && z)) ≡ no_device o
+    → o.bitmap ≡ 0 → o.reserved.count ≡ 0 → z ≡ no_device o
 unfolding no_device reserved_rest
-no-device o ws z e f =
-    by-test (eqb o.reserved.count 0)
-    (λ t. rw (f ∙ ap zeros e ∙ zeros-row o.reserved.starts o.reserved.lasts, eqb-true o.reserved.count 0 t))
-    (λ t. rw t)
+no-device o ws z e f b n = rw (f ∙ ap zeros e ∙ zeros-row o.reserved.starts o.reserved.lasts, b, n)
 
 pub no-list : (o : Object) (ws : List ℕ) (z : Bool) → ws ≡ o.allow.starts ++ o.allow.lasts → z ≡ zeros ws
-    → (eqb o.allow.count 0 && z) ≡ no_list o
+    → o.allow.count ≡ 0 → z ≡ no_list o
 unfolding no_list allow_rest
-no-list o ws z e f =
-    by-test (eqb o.allow.count 0)
-    (λ t. rw (f ∙ ap zeros e ∙ zeros-row o.allow.starts o.allow.lasts, eqb-true o.allow.count 0 t))
-    (λ t. rw t)
+no-list o ws z e f n = rw (f ∙ ap zeros e ∙ zeros-row o.allow.starts o.allow.lasts, n)

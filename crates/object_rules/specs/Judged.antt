@@ -4,8 +4,8 @@ use Rattle.std.proofs.Common.{sym, ap, ◌∙◌, arith, leb-true, leb-false, le
 use Rattle.std.proofs.Math.ListN.{get_or-eq_default}
 use Rattle.lists.specs.Tests.{by-test, contrary, and_not_right}
 use Rattle.rangelists.specs.Listed.{reserved, allowed}
-use Rattle.rules_table.specs.declared.Attachment.{Attachment}
 use Rattle.rules_table.specs.declared.Attachment.TheVariants.{Loose, Attached}
+use Rattle.rules_table.specs.declared.Attachment.{Attachment}
 use Rattle.rules_table.specs.declared.Kind.{Kind}
 use Rattle.rules_table.specs.declared.Kind.TheVariants.{Free, Space, Device}
 use Rattle.rules_table.specs.declared.Object.{Object}

@@ -39,59 +39,53 @@ fn allows_at(h: &[u64; 865], i: usize) -> u32
 }
 
 // Its lists, each a part of the head: the starts and the lasts of what is reserved, then of what is allowed.
-fn starts_at<'a>(h: &'a [u64; 865], i: usize) -> &'a [u64]
+fn starts_at(h: &[u64; 865], i: usize) -> &[u64]
     requires { i < 32 }
     ensures { (result.now ≡ (get_or (objects_in h.now) i zero_object).reserved.starts) × (length result.now ≡ 4) }
 {
     let b = 27 * i + 1;
-    let w = &h[..];
-    &w[b + 3..b + 7]
+    &h[b + 3..b + 7]
 }
 
-fn lasts_at<'a>(h: &'a [u64; 865], i: usize) -> &'a [u64]
+fn lasts_at(h: &[u64; 865], i: usize) -> &[u64]
     requires { i < 32 }
     ensures { (result.now ≡ (get_or (objects_in h.now) i zero_object).reserved.lasts) × (length result.now ≡ 4) }
 {
     let b = 27 * i + 1;
-    let w = &h[..];
-    &w[b + 7..b + 11]
+    &h[b + 7..b + 11]
 }
 
-fn froms_at<'a>(h: &'a [u64; 865], i: usize) -> &'a [u64]
+fn froms_at(h: &[u64; 865], i: usize) -> &[u64]
     requires { i < 32 }
     ensures { (result.now ≡ (get_or (objects_in h.now) i zero_object).allow.starts) × (length result.now ≡ 8) }
 {
     let b = 27 * i + 1;
-    let w = &h[..];
-    &w[b + 11..b + 19]
+    &h[b + 11..b + 19]
 }
 
-fn ends_at<'a>(h: &'a [u64; 865], i: usize) -> &'a [u64]
+fn ends_at(h: &[u64; 865], i: usize) -> &[u64]
     requires { i < 32 }
     ensures { (result.now ≡ (get_or (objects_in h.now) i zero_object).allow.lasts) × (length result.now ≡ 8) }
 {
     let b = 27 * i + 1;
-    let w = &h[..];
-    &w[b + 19..b + 27]
+    &h[b + 19..b + 27]
 }
 
 // Starts and lasts at once.
-fn reserved_at<'a>(h: &'a [u64; 865], i: usize) -> &'a [u64]
+fn reserved_at(h: &[u64; 865], i: usize) -> &[u64]
     requires { i < 32 }
     ensures { result.now ≡ (get_or (objects_in h.now) i zero_object).reserved.starts ++ (get_or (objects_in h.now) i zero_object).reserved.lasts }
 {
     let b = 27 * i + 1;
-    let w = &h[..];
-    &w[b + 3..b + 11]
+    &h[b + 3..b + 11]
 }
 
-fn allow_at<'a>(h: &'a [u64; 865], i: usize) -> &'a [u64]
+fn allow_at(h: &[u64; 865], i: usize) -> &[u64]
     requires { i < 32 }
     ensures { result.now ≡ (get_or (objects_in h.now) i zero_object).allow.starts ++ (get_or (objects_in h.now) i zero_object).allow.lasts }
 {
     let b = 27 * i + 1;
-    let w = &h[..];
-    &w[b + 11..b + 27]
+    &h[b + 11..b + 27]
 }
 
 // Whether every place from `from` on is zero. The bits of all places are joined, so that the loop has no branch.
@@ -99,87 +93,74 @@ fn zero_from(xs: &[u64], from: usize) -> bool
     ensures { result ≡ zeros (drop from xs.now) }
 {
     let mut bits: u64 = 0;
-    let mut i = from;
-    while i < xs.len() {
-        bits = bits | xs[i];
-        i += 1;
+    for i in from..xs.len() {
+        bits |= xs[i];
     }
     bits == 0
 }
 
+#[tactic(auto, unfolding(rules_table::specs::Good::reserved_rest))]
 fn reserved_rest(h: &[u64; 865], i: usize) -> bool
     requires { i < 32 }
     ensures { result ≡ reserved_rest (get_or (objects_in h.now) i zero_object) }
 {
     let n = rangelists::used(reserves_at(h, i), 4);
-    checks::both(zero_from(starts_at(h, i), n), zero_from(lasts_at(h, i), n))
+    zero_from(starts_at(h, i), n) && zero_from(lasts_at(h, i), n)
 }
 
+#[tactic(auto, unfolding(rules_table::specs::Good::allow_rest))]
 fn allow_rest(h: &[u64; 865], i: usize) -> bool
     requires { i < 32 }
     ensures { result ≡ allow_rest (get_or (objects_in h.now) i zero_object) }
 {
     let n = rangelists::used(allows_at(h, i), 8);
-    checks::both(zero_from(froms_at(h, i), n), zero_from(ends_at(h, i), n))
+    zero_from(froms_at(h, i), n) && zero_from(ends_at(h, i), n)
 }
 
 // Whether what only a device has is zero: with no range in use every place is asked.
+#[tactic(auto, unfolding(rules_table::specs::Good::no_device))]
 fn no_device(h: &[u64; 865], i: usize) -> bool
     requires { i < 32 }
     ensures { result ≡ no_device (get_or (objects_in h.now) i zero_object) }
 {
-    let bitmap = bitmap_at(h, i);
-    let count = reserves_at(h, i);
-    checks::both(
-        bitmap == 0,
-        checks::both(count == 0, zero_from(reserved_at(h, i), 0)),
-    )
+    bitmap_at(h, i) == 0 && reserves_at(h, i) == 0 && zero_from(reserved_at(h, i), 0)
 }
 
 // Whether what only a space has is zero.
+#[tactic(auto, unfolding(rules_table::specs::Good::no_list))]
 fn no_list(h: &[u64; 865], i: usize) -> bool
     requires { i < 32 }
     ensures { result ≡ no_list (get_or (objects_in h.now) i zero_object) }
 {
-    let count = allows_at(h, i);
-    checks::both(count == 0, zero_from(allow_at(h, i), 0))
+    allows_at(h, i) == 0 && zero_from(allow_at(h, i), 0)
 }
 
 // Whether bind takes the fields of a device.
+#[tactic(auto, using(crate::proofs::Judging::fits_device), unfolding(rangelists::specs::Listed::reserved))]
 fn device_valid(h: &[u64; 865], i: usize) -> bool
     requires { i < 32 }
     ensures { result ≡ device_fits (get_or (objects_in h.now) i zero_object) }
 {
     let bitmap = bitmap_at(h, i);
     let count = reserves_at(h, i);
-    let page = alignment::smallest_page(bitmap);
     let n = rangelists::used(count, 4);
-    checks::both(
-        bitmap != 0,
-        checks::both(
-            page <= 4096,
-            checks::both(
-                count <= 4,
-                rangelists::all_valid(starts_at(h, i), lasts_at(h, i), n),
-            ),
-        ),
-    )
+    bitmap != 0
+        && alignment::smallest_page(bitmap) <= 4096
+        && count <= 4
+        && rangelists::all_valid(starts_at(h, i), lasts_at(h, i), n)
 }
 
 // Whether ALLOW_IOVAS takes the list of a space.
+#[tactic(auto, using(crate::proofs::Judging::fits_list), unfolding(rangelists::specs::Listed::allowed))]
 fn list_valid(h: &[u64; 865], i: usize) -> bool
     requires { i < 32 }
     ensures { result ≡ list_fits (get_or (objects_in h.now) i zero_object) }
 {
     let count = allows_at(h, i);
     let n = rangelists::used(count, 8);
-    checks::both(
-        count <= 8,
-        checks::both(
-            rangelists::all_valid(froms_at(h, i), ends_at(h, i), n),
-            !rangelists::some_overlap(froms_at(h, i), ends_at(h, i), n),
-        ),
-    )
+    count <= 8
+        && rangelists::all_valid(froms_at(h, i), ends_at(h, i), n)
+        && !rangelists::some_overlap(froms_at(h, i), ends_at(h, i), n)
 }
 
 // Whether some range that object i has reserved shares an address with some range of object j's list.
@@ -200,12 +181,12 @@ fn lists_touch(h: &[u64; 865], i: usize, j: usize) -> bool
 }
 
 // Whether the device i may be attached to the object j.
+#[tactic(auto, unfolding(crate::specs::Judged::home_fits))]
 fn home_good(h: &[u64; 865], i: usize, j: usize) -> bool
     requires { (i < 32) × (j < 32) }
     ensures { result ≡ home_fits (get_or (objects_in h.now) j zero_object) (get_or (objects_in h.now) i zero_object) }
 {
-    let k = layout_objects::kind_at(h, j);
-    checks::both(table::is_space(k), !lists_touch(h, i, j))
+    table::is_space(layout_objects::kind_at(h, j)) && !lists_touch(h, i, j)
 }
 
 // Whether it may be attached as it is: to nothing, or to one of the 32.
@@ -215,15 +196,7 @@ fn attach_good(h: &[u64; 865], i: usize, a: Attachment) -> bool
 {
     match a {
         Attachment::Loose => true,
-        Attachment::Attached(s) => {
-            if s < 1 {
-                return false;
-            }
-            if 32 < s {
-                return false;
-            }
-            home_good(h, i, (s - 1) as usize)
-        }
+        Attachment::Attached(s) => 1 <= s && s <= 32 && home_good(h, i, (s - 1) as usize),
     }
 }
 
@@ -232,13 +205,7 @@ fn device_good(h: &[u64; 865], i: usize, a: Attachment) -> bool
     requires { i < 32 }
     ensures { result ≡ fits_by (get_or (objects_in h.now) (place_by a) zero_object) (get_or (objects_in h.now) i zero_object) (Kind.Device a) }
 {
-    if !device_valid(h, i) {
-        return false;
-    }
-    if !attach_good(h, i, a) {
-        return false;
-    }
-    checks::both(reserved_rest(h, i), no_list(h, i))
+    device_valid(h, i) && attach_good(h, i, a) && reserved_rest(h, i) && no_list(h, i)
 }
 
 // The object in slot i by the rules of the kind k, with the object that this names.
@@ -247,11 +214,8 @@ pub fn object_good(h: &[u64; 865], i: usize, k: Kind) -> bool
     ensures { result ≡ fits_by (get_or (objects_in h.now) (named_place k) zero_object) (get_or (objects_in h.now) i zero_object) k }
 {
     match k {
-        Kind::Free => checks::both(no_device(h, i), no_list(h, i)),
-        Kind::Space => checks::both(
-            list_valid(h, i),
-            checks::both(no_device(h, i), allow_rest(h, i)),
-        ),
+        Kind::Free => no_device(h, i) && no_list(h, i),
+        Kind::Space => list_valid(h, i) && no_device(h, i) && allow_rest(h, i),
         Kind::Device(a) => device_good(h, i, a),
     }
 }

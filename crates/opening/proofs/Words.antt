@@ -6,11 +6,11 @@ use native.Mathlib.Nat.{mod-eq_of_lt, div-one}
 use native.Mathlib.Omega.{arith}
 use lib.Dec.{eqb}
 use lib.Bits.{bit_and, and_mask, and_high}
-use lib.IntN.{pos, neg_ℤ, ◌-ℤ◌, +ℤ_idl}
+use lib.IntN.{ℤ, pos, neg_ℤ, ◌-ℤ◌, +ℤ_idl}
 use lib.Signed.{mag}
 use mir.Syntax.{w32}
 use mir.Val.{SFits, to_z, of_z}
-use mir.Facts.{to_z_pos, to_z-of_z}
+use mir.Facts.{to_z-of_z}
 use borrow.Author.Tests.{eq-eqb, ne_eqb, eqb-true, eqb-false}
 use Rattle.lists.specs.Tests.{by-test}
 use Rattle.rules_table.specs.Flags.{bit, unknown}
@@ -41,12 +41,12 @@ mag_neg zero = omega arith
 mag_neg (suc n) = omega arith
 
 module _ (n : ℕ) (h : n < 2 ^ 31) where
-  negative : pos 0 -ℤ to_z w32 n ≡ neg_ℤ (pos n)
-  negative = rw (to_z_pos w32 h) (+ℤ_idl (neg_ℤ (pos n)))
+  fits : SFits w32 (pos n)
+  fits = record { sfits = omega arith }
 
-  pub negative_fits : SFits w32 (pos 0 -ℤ to_z w32 n)
-  negative_fits = rw negative (record { sfits = omega (arith, mag_neg n) })
+  negative_fits : SFits w32 (pos 0 -ℤ pos n)
+  negative_fits = rw (+ℤ_idl (neg_ℤ (pos n))) (record { sfits = omega (arith, mag_neg n) })
 
-  pub negative-is : to_z w32 (of_z w32 (pos 0 -ℤ to_z w32 n)) ≡ signed_result n
+  pub negative-is : (z : ℤ) → z ≡ pos n → to_z w32 (of_z w32 (pos 0 -ℤ to_z w32 (of_z w32 z))) ≡ signed_result n
   unfolding signed_result
-  negative-is = to_z-of_z negative_fits ∙ negative
+  negative-is z e = rw (e, to_z-of_z fits) (to_z-of_z negative_fits ∙ +ℤ_idl (neg_ℤ (pos n)))

@@ -1,27 +1,42 @@
 // Opening a command: the request table, the size field, the unknown tail. Then the flags of MAP and COPY, and the signed result of a call.
 #![tactic(auto)]
 
-ghost use Rattle.std.specs.Prelude.{◌≡◌, ◌≤◌, pos, length};
-ghost use Rattle.rules_calls.specs.Requests.{lookup};
+ghost use Rattle.std.specs.Prelude.{◌≡◌, ◌≤◌, pos, length, Some, Err};
+ghost use Rattle.rules_calls.specs.Requests.{request_of, lookup};
 ghost use Rattle.rules_calls.specs.Opening.{tail, open_row, opened, opening_errno};
 ghost use Rattle.rules_table.specs.Flags.{bit, unknown};
 ghost use Rattle.rules_calls.specs.Results.{signed_result};
 
-use rules_calls::{Command, Opening, Row};
+use rules_calls::{Command, Unopened};
 
-// The table of requests.
-pub fn look_up(request: u32) -> Row
+// The table of requests: the command of a number.
+pub fn look_up(request: u32) -> Option<Command>
     ensures { result ≡ lookup request }
 {
     match request {
-        0x3B80 => Row::Listed(Command::Destroy, 8),
-        0x3B81 => Row::Listed(Command::IoasAlloc, 12),
-        0x3B82 => Row::Listed(Command::AllowIovas, 24),
-        0x3B83 => Row::Listed(Command::Copy, 40),
-        0x3B84 => Row::Listed(Command::IovaRanges, 32),
-        0x3B85 => Row::Listed(Command::Map, 40),
-        0x3B86 => Row::Listed(Command::Unmap, 24),
-        _ => Row::Unlisted,
+        0x3B80 => Some(Command::Destroy),
+        0x3B81 => Some(Command::IoasAlloc),
+        0x3B82 => Some(Command::AllowIovas),
+        0x3B83 => Some(Command::Copy),
+        0x3B84 => Some(Command::IovaRanges),
+        0x3B85 => Some(Command::Map),
+        0x3B86 => Some(Command::Unmap),
+        _ => None,
+    }
+}
+
+// The bytes of its fields.
+pub fn known_size(command: Command) -> usize
+    ensures { result ≡ (request_of command).size }
+{
+    match command {
+        Command::Destroy => 8,
+        Command::IoasAlloc => 12,
+        Command::AllowIovas => 24,
+        Command::Copy => 40,
+        Command::IovaRanges => 32,
+        Command::Map => 40,
+        Command::Unmap => 24,
     }
 }
 
@@ -34,46 +49,56 @@ pub fn unknown_tail<'a>(cmd: &'a [u8], known: usize, size: usize) -> &'a [u8]
 }
 
 // The checks of a listed request, in order.
-fn open_row(command: Command, known: usize, cmd: &[u8]) -> Opening
-    ensures { result ≡ open_row (Row.Listed command known) cmd.now }
+fn open_listed(command: Command, cmd: &[u8]) -> Result<Command, Unopened>
+    ensures { result ≡ open_row (Some command) cmd.now }
 {
+    let known = known_size(command);
     if cmd.len() < 4 {
-        return Opening::NoSizeField;
+        return Err(Unopened::NoSizeField);
     }
     let size = wire::read32(cmd, 0) as usize;
     if size < known {
-        return Opening::SizeTooSmall;
+        return Err(Unopened::SizeTooSmall);
     }
     if cmd.len() < size {
-        return Opening::SizePastBytes;
+        return Err(Unopened::SizePastBytes);
     }
     if !wire::all_zero(unknown_tail(cmd, known, size)) {
-        return Opening::TailNotZero;
+        return Err(Unopened::TailNotZero);
     }
-    Opening::Open(command)
+    Ok(command)
 }
 
 // Opens a command, after the table check.
-pub fn open(request: u32, cmd: &[u8]) -> Opening
+pub fn open(request: u32, cmd: &[u8]) -> Result<Command, Unopened>
     ensures { result ≡ opened request cmd.now }
 {
-    let row = look_up(request);
-    let Row::Listed(command, known) = row else {
-        return Opening::UnknownRequest;
+    let Some(command) = look_up(request) else {
+        return Err(Unopened::UnknownRequest);
     };
-    open_row(command, known, cmd)
+    open_listed(command, cmd)
 }
 
-pub fn opening_errno(o: Opening) -> u8
-    ensures { result ≡ opening_errno o }
+// The errno of a command that is not opened.
+pub fn unopened_errno(why: Unopened) -> u8
+    ensures { result ≡ opening_errno (Err why) }
 {
-    match o {
-        Opening::UnknownRequest => 25,
-        Opening::NoSizeField => 14,
-        Opening::SizeTooSmall => 22,
-        Opening::SizePastBytes => 14,
-        Opening::TailNotZero => 7,
-        Opening::Open(_) => 0,
+    match why {
+        Unopened::UnknownRequest => 25,
+        Unopened::NoSizeField => 14,
+        Unopened::SizeTooSmall => 22,
+        Unopened::SizePastBytes => 14,
+        Unopened::TailNotZero => 7,
+    }
+}
+
+// The same, 0 where one is.
+pub fn opening_errno(opening: Result<Command, Unopened>) -> u8
+    ensures { result ≡ opening_errno opening }
+{
+    match opening {
+        Ok(_) => 0,
+        Err(why) => unopened_errno(why),
     }
 }
 
@@ -107,12 +132,12 @@ pub fn has_unknown(flags: u32) -> bool
 pub fn signed_result(errno: u8) -> i32
     ensures { result ≡ signed_result errno }
 {
-    -(errno as i32)
+    -i32::from(errno)
 }
 
 // Bind's result: the new id.
 pub fn id_result(id: u8) -> i32
     ensures { result ≡ pos id }
 {
-    id as i32
+    i32::from(id)
 }

@@ -1,7 +1,6 @@
 -- Candidates (document 01, MAP): a multiple of the alignment from which the whole length ends by U64MAX, touches no blocked range (reserved or mapped), and lies inside
 -- one single range of the allow list, where that list is not empty. The lowest is taken. `place-lowest` says that `place_of`, which computes, gives it.
-use Rattle.std.specs.Prelude.{ℕ, ◌+◌, ◌≤◌, min, ◌≡◌, Bool, true, false, not, ◌&&◌, cond, List, [], ◌∷◌, ◌++◌, map, leb}
-use Rattle.std.proofs.Math.Option.{Option, none, some}
+use Rattle.std.specs.Prelude.{ℕ, ◌+◌, ◌≤◌, min, ◌≡◌, Bool, true, false, not, ◌&&◌, cond, List, [], ◌∷◌, ◌++◌, map, leb, Option, None, Some}
 use Rattle.lists.specs.Search.{any}
 use Rattle.ranges.specs.declared.Range.{Range}
 use Rattle.ranges.specs.Ranges.{share, inside, passes, span}
@@ -30,12 +29,12 @@ unfoldable pub starts : ℕ → ℕ → List Range → List Range → List ℕ
 starts a low blocked allow = round_up a low ∷ (map (λ (q : Range). round_up a q.start) allow ++ map (λ (r : Range). round_up a (r.last + 1)) blocked)
 
 abbrev pub lower : ℕ → Option ℕ → Option ℕ
-lower x none = some x
-lower x (some y) = some (min x y)
+lower x None = Some x
+lower x (Some y) = Some (min x y)
 
 -- the lowest number of a list that passes a test
 unfoldable pub lowest_of : (ℕ → Bool) → List ℕ → Option ℕ
-lowest_of p [] = none
+lowest_of p [] = None
 lowest_of p (x ∷ xs) = cond (p x) (lower x (lowest_of p xs)) (lowest_of p xs)
 
 -- the lowest start that is a candidate. `place-lowest`: no candidate is lower

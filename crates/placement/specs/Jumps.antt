@@ -1,18 +1,16 @@
 -- The search as the code makes it: it stands at a place, jumps past every range that it touches there, and so never passes a place that is free.
 -- Each jump leaves the range that caused it behind for good, which bounds their number.
-use Rattle.std.specs.Prelude.{ℕ, ◌+◌, ◌≤◌, ◌<◌, min, ◌≡◌, Bool, true, false, not, ◌&&◌, cond, List, [], ◌∷◌, leb, eqb, length}
+use Rattle.std.specs.Prelude.{ℕ, ◌+◌, ◌≤◌, ◌<◌, min, ◌≡◌, Bool, true, false, not, ◌&&◌, cond, List, [], ◌∷◌, leb, eqb, length, Option, None, Some}
 use Rattle.lists.specs.Search.{any}
 use Rattle.lists.specs.Sums.{count_of}
 use Rattle.ranges.specs.declared.Range.{Range}
 use Rattle.ranges.specs.Ranges.{share, inside, passes, span}
-use Rattle.alignment.specs.declared.Spot.{Spot}
-use Rattle.alignment.specs.declared.Spot.TheVariants.{Nowhere, At}
-use Rattle.alignment.specs.Multiples.{multiple, lowest_multiple, spot_of}
+use Rattle.alignment.specs.Multiples.{multiple, lowest_multiple}
 use Rattle.placement.specs.Candidates.{place_of}
 
 -- the next place from x on at which q is not touched: x itself, or the lowest multiple past q
-unfoldable pub past_of : ℕ → ℕ → ℕ → Range → Spot
-past_of a n x q = cond (share (span x n) q) (lowest_multiple a (q.last + 1)) (At x)
+unfoldable pub past_of : ℕ → ℕ → ℕ → Range → Option ℕ
+past_of a n x q = cond (share (span x n) q) (lowest_multiple a (q.last + 1)) (Some x)
 
 -- the jumps from x to the next place y
 unfoldable pub jumps_to : ℕ → ℕ → ℕ
@@ -42,24 +40,24 @@ pub record Never (a n : ℕ) (rs : List Range) (x jumps : ℕ) : Type 0 where
   pub fewer : jumps ≤ ending x rs
 
 -- one pass over all ranges from x on. Where it did not move, x touches none of them
-abbrev pub Swept : ℕ → ℕ → List Range → ℕ → Spot → ℕ → Type 0
-Swept a n rs x Nowhere jumps = Never a n rs x jumps
-Swept a n rs x (At y) jumps = Onward a n rs x y jumps × (y ≡ x → any (share (span x n)) rs ≡ false)
+abbrev pub Swept : ℕ → ℕ → List Range → ℕ → Option ℕ → ℕ → Type 0
+Swept a n rs x None jumps = Never a n rs x jumps
+Swept a n rs x (Some y) jumps = Onward a n rs x y jumps × (y ≡ x → any (share (span x n)) rs ≡ false)
 
 -- n bytes from x on end by U64MAX and inside the window
 unfoldable pub room_at : ℕ → ℕ → Range → Bool
 room_at n x window = not (passes x n) && inside (span x n) window
 
 -- the lower of two places
-abbrev pub lower_of : Spot → Spot → Spot
-lower_of Nowhere s = s
-lower_of (At x) Nowhere = At x
-lower_of (At x) (At y) = At (min x y)
+abbrev pub lower_of : Option ℕ → Option ℕ → Option ℕ
+lower_of None s = s
+lower_of (Some x) None = Some x
+lower_of (Some x) (Some y) = Some (min x y)
 
 -- the lowest place in one of the windows
-unfoldable pub in_windows : ℕ → ℕ → ℕ → List Range → List Range → Spot
-in_windows a n low rs [] = Nowhere
-in_windows a n low rs (w ∷ ws) = lower_of (spot_of (place_of a n low rs (w ∷ []))) (in_windows a n low rs ws)
+unfoldable pub in_windows : ℕ → ℕ → ℕ → List Range → List Range → Option ℕ
+in_windows a n low rs [] = None
+in_windows a n low rs (w ∷ ws) = lower_of (place_of a n low rs (w ∷ [])) (in_windows a n low rs ws)
 
 -- in how many windows is searched: without an allow list in one. In each there are at most as many jumps as blocked ranges
 unfoldable pub windows_of : List Range → ℕ

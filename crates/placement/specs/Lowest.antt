@@ -1,17 +1,15 @@
 -- `place_of` computes the lowest candidate. Below a candidate, each start that is none touches a range, and the start past that range is higher and still not past the candidate.
-use Rattle.std.specs.Prelude.{ℕ, zero, suc, ◌+◌, ◌-◌, ◌≤◌, ◌<◌, min, ◌≡◌, Bool, true, false, not, ◌&&◌, cond, leb, ltb}
+use Rattle.std.specs.Prelude.{ℕ, zero, suc, ◌+◌, ◌-◌, ◌≤◌, ◌<◌, min, ◌≡◌, Bool, true, false, not, ◌&&◌, cond, leb, ltb, Option, None, Some}
 use Rattle.std.proofs.Common.{zero-le, sym, ◌∙◌}
 use Rattle.std.proofs.Math.Path.{refl}
 use mathlib.Core.List.{List, [], ◌∷◌, ◌++◌, map}
-use Rattle.std.proofs.Math.Option.{Option, none, some}
 use native.Mathlib.Omega.{arith}
 use borrow.Author.Tests.{leb-true, leb-false, le-leb, le-ltb, not-true}
 use Rattle.lists.specs.Tests.{by-test, contrary, and_left, and_right, and_both, or_left, or_right, or_other}
 use Rattle.lists.specs.Search.{any, any_append, any-nil, any-cons, find, find_none, find-some, find-some_any, find-any_true, find-cons_true, find-cons_false}
 use Rattle.ranges.specs.declared.Range.{Range}
 use Rattle.ranges.specs.Ranges.{share, shared_start, shared_last, inside, inside-from, inside-upto, passes, passes-false, last_of, span, span-some, U64MAX}
-use Rattle.alignment.specs.declared.Spot.TheVariants.{Nowhere, At}
-use Rattle.alignment.specs.Multiples.{multiple, round_up, Lowest, MultipleFrom, lowest_multiple, lowest-is, spot_of}
+use Rattle.alignment.specs.Multiples.{multiple, round_up, Lowest, MultipleFrom, lowest_multiple, lowest-is}
 use Rattle.placement.specs.Candidates.{Candidate, is_candidate, permits, starts, lower, lowest_of, place_of}
 
 -- ---- from a place to a later one
@@ -96,7 +94,7 @@ in_first x xs ys h q e = any_append q xs ys ∙ or_left (any q xs) (any q ys) (h
 In-second : (x : ℕ) (xs ys : List ℕ) → In x ys → In x (xs ++ ys)
 In-second x xs ys h q e = any_append q xs ys ∙ or_right (any q xs) (any q ys) (h q e)
 
-in_found : (p : Range → Bool) (g : Range → ℕ) (rs : List Range) (r : Range) → find p rs ≡ some r → In (g r) (map g rs)
+in_found : (p : Range → Bool) (g : Range → ℕ) (rs : List Range) (r : Range) → find p rs ≡ Some r → In (g r) (map g rs)
 unfolding find
 in_found p g [] r e q t = let z : ◌≡◌ {A = ℕ} 0 1 = cc in absurd (omega arith)
 in_found p g (x ∷ rs) r e q t =
@@ -123,17 +121,17 @@ module _ (p : ℕ → Bool) where
   up_to-le n y e = leb-true y n (and_right (p y) (leb y n) e)
 
   abbrev LowestIn : List ℕ → Option ℕ → Type 0
-  LowestIn xs (some x) = (p x ≡ true) × ((n : ℕ) → any (up_to n) xs ≡ true → x ≤ n)
-  LowestIn xs none = (n : ℕ) → any (up_to n) xs ≡ true → ⊥
+  LowestIn xs (Some x) = (p x ≡ true) × ((n : ℕ) → any (up_to n) xs ≡ true → x ≤ n)
+  LowestIn xs None = (n : ℕ) → any (up_to n) xs ≡ true → ⊥
 
   split : {C : Type 0} (n w : ℕ) (xs : List ℕ) → any (up_to n) (w ∷ xs) ≡ true → (up_to n w ≡ true → C) → (any (up_to n) xs ≡ true → C) → C
   split n w xs e f g = by-test (up_to n w) f (λ t. g (or_other (up_to n w) (any (up_to n) xs) (sym (any-cons (up_to n) w xs) ∙ e) t))
 
   step : (w : ℕ) (xs : List ℕ) (b : Bool) → p w ≡ b → (r : Option ℕ) → LowestIn xs r → LowestIn (w ∷ xs) (cond b (lower w r) r)
-  step w xs false e none h = λ n t. split n w xs t (λ u. contrary (p w) (up_to-passes n w u) e) (λ u. h n u)
-  step w xs false e (some x) h = (h.0, λ n t. split n w xs t (λ u. contrary (p w) (up_to-passes n w u) e) (λ u. h.1 n u))
-  step w xs true e none h = (e, λ n t. split n w xs t (λ u. up_to-le n w u) (λ u. absurd (h n u)))
-  step w xs true e (some x) h =
+  step w xs false e None h = λ n t. split n w xs t (λ u. contrary (p w) (up_to-passes n w u) e) (λ u. h n u)
+  step w xs false e (Some x) h = (h.0, λ n t. split n w xs t (λ u. contrary (p w) (up_to-passes n w u) e) (λ u. h.1 n u))
+  step w xs true e None h = (e, λ n t. split n w xs t (λ u. up_to-le n w u) (λ u. absurd (h n u)))
+  step w xs true e (Some x) h =
       by-test (leb w x)
       (λ q. let l = leb-true w x q in let m : min w x ≡ w = omega arith in rw m (e, λ n t. split n w xs t (λ u. up_to-le n w u) (λ u. omega (arith, h.1 n u))))
       (λ q. let l = leb-false w x q in let m : min w x ≡ x = omega arith in rw m (h.0, λ n t. split n w xs t (λ u. omega (arith, up_to-le n w u)) (λ u. h.1 n u)))
@@ -157,18 +155,18 @@ rounded a x y e h b = go (multiple a (round_up a x) && ltb (round_up a x) 0x1_00
     here : MultipleFrom a x y
     here = record { exact = e; from = h; below = b }
 
-    go : (t : Bool) → Lowest (MultipleFrom a x) (cond t (At (round_up a x)) Nowhere) → Rounded a x y (round_up a x)
+    go : (t : Bool) → Lowest (MultipleFrom a x) (cond t (Some (round_up a x)) None) → Rounded a x y (round_up a x)
     go true l = record { exact = l.0.exact; from = l.0.from; upto = l.1 y here }
     go false l = absurd (l y here)
 
 -- ---- what an allow list permits: everything, or what lies in one of its ranges
 
-permits-cases : {C : Type 0} (qs : List Range) (r : Range) → permits qs r ≡ true → (((s : Range) → permits qs s ≡ true) → C) → ((w : Range) → find (inside r) qs ≡ some w → C) → C
+permits-cases : {C : Type 0} (qs : List Range) (r : Range) → permits qs r ≡ true → (((s : Range) → permits qs s ≡ true) → C) → ((w : Range) → find (inside r) qs ≡ Some w → C) → C
 unfolding permits
 permits-cases [] r e f g = f (λ s. refl)
 permits-cases (q ∷ qs) r e f g = let w = find-any_true (inside r) (q ∷ qs) e in g w.0 w.1
 
-permits-in : (qs : List Range) (p : Range → Bool) (w s : Range) → find p qs ≡ some w → inside s w ≡ true → permits qs s ≡ true
+permits-in : (qs : List Range) (p : Range → Bool) (w s : Range) → find p qs ≡ Some w → inside s w ≡ true → permits qs s ≡ true
 unfolding permits
 permits-in [] p w s e i = refl
 permits-in (q ∷ qs) p w s e i =
@@ -183,34 +181,34 @@ module _ (a n low : ℕ) (blocked allow : List Range) (y : ℕ) (c : Candidate a
   below = omega (arith, passes-false y n c.ends)
 
   -- one of the starts is a candidate, and at most y
-  abbrev Some : Type 0
-  Some = any (up_to (is_candidate a n low blocked allow) y) (starts a low blocked allow) ≡ true
+  abbrev Started : Type 0
+  Started = any (up_to (is_candidate a n low blocked allow) y) (starts a low blocked allow) ≡ true
 
   in_low : In (round_up a low) (starts a low blocked allow)
   unfolding starts
   in_low = in_head (round_up a low) _
 
-  in_allow : (p : Range → Bool) (w : Range) → find p allow ≡ some w → In (round_up a w.start) (starts a low blocked allow)
+  in_allow : (p : Range → Bool) (w : Range) → find p allow ≡ Some w → In (round_up a w.start) (starts a low blocked allow)
   unfolding starts
   in_allow p w e = in_tail _ _ _ (in_first _ (map (λ (q : Range). round_up a q.start) allow) (map (λ (r : Range). round_up a (r.last + 1)) blocked) (in_found p (λ (q : Range). round_up a q.start) allow w e))
 
-  in_past : (p : Range → Bool) (r : Range) → find p blocked ≡ some r → In (round_up a (r.last + 1)) (starts a low blocked allow)
+  in_past : (p : Range → Bool) (r : Range) → find p blocked ≡ Some r → In (round_up a (r.last + 1)) (starts a low blocked allow)
   unfolding starts
   in_past p r e = in_tail _ _ _ (In-second _ (map (λ (q : Range). round_up a q.start) allow) (map (λ (r : Range). round_up a (r.last + 1)) blocked) (in_found p (λ (r : Range). round_up a (r.last + 1)) blocked r e))
 
   -- from f on up to y every place is permitted
   module _ (f : ℕ) (ok : (z : ℕ) → f ≤ z → z ≤ y → permits allow (span z n) ≡ true) where
-    climb : (fuel s : ℕ) → y < s + fuel → In s (starts a low blocked allow) → multiple a s ≡ true → low ≤ s → f ≤ s → s ≤ y → Some
+    climb : (fuel s : ℕ) → y < s + fuel → In s (starts a low blocked allow) → multiple a s ≡ true → low ≤ s → f ≤ s → s ≤ y → Started
     climb zero s h i m l k u = absurd (omega arith)
     climb (suc fuel) s h i m l k u = go (find (share (span s n)) blocked) refl (climb fuel)
       where
-        go : (o : Option Range) → find (share (span s n)) blocked ≡ o → ((t : ℕ) → y < t + fuel → In t (starts a low blocked allow) → multiple a t ≡ true → low ≤ t → f ≤ t → t ≤ y → Some) → Some
-        go none e rec =
+        go : (o : Option Range) → find (share (span s n)) blocked ≡ o → ((t : ℕ) → y < t + fuel → In t (starts a low blocked allow) → multiple a t ≡ true → low ≤ t → f ≤ t → t ≤ y → Started) → Started
+        go None e rec =
             i (up_to (is_candidate a n low blocked allow) y)
             (up_to-of (is_candidate a n low blocked allow) y s
             (candidate_is a n low blocked allow s (record { exact = m; from = l; ends = ends-before n s y u c.ends; clear = find_none (share (span s n)) blocked e; permitted = ok s k u }))
             u)
-        go (some r) e rec =
+        go (Some r) e rec =
             let t = find-some (share (span s n)) blocked r e in
             let v = touch_reaches n s r t in
             let w = touch_ends n s r t y u c.ends (find-some_any (share (span s n)) (share (span y n)) blocked r e c.clear) in
@@ -218,15 +216,15 @@ module _ (a n low : ℕ) (blocked allow : List Range) (y : ℕ) (c : Candidate a
             rec (round_up a (r.last + 1)) (omega (arith, q.from)) (in_past (share (span s n)) r e) q.exact (omega (arith, q.from)) (omega (arith, q.from)) q.upto
 
     -- from a number whose multiple is a start
-    climb-from : (s : ℕ) → low ≤ s → f ≤ s → s ≤ y → In (round_up a s) (starts a low blocked allow) → Some
+    climb-from : (s : ℕ) → low ≤ s → f ≤ s → s ≤ y → In (round_up a s) (starts a low blocked allow) → Started
     climb-from s l k u i =
         let q = rounded a s y c.exact u below in
         climb (suc y) (round_up a s) (omega (arith, q.from)) i q.exact (omega (arith, q.from)) (omega (arith, q.from)) q.upto
 
-  some-start : Some
+  some-start : Started
   some-start = permits-cases allow (span y n) c.permitted (λ all. climb-from 0 (λ z h k. all (span z n)) low (omega arith) zero-le c.from in_low) in_window-candidate
     where
-      in_window-candidate : (w : Range) → find (inside (span y n)) allow ≡ some w → Some
+      in_window-candidate : (w : Range) → find (inside (span y n)) allow ≡ Some w → Started
       in_window-candidate w e =
           let i = find-some (inside (span y n)) allow w e in
           let ok : (z : ℕ) → w.start ≤ z → z ≤ y → permits allow (span z n) ≡ true =
@@ -236,10 +234,10 @@ module _ (a n low : ℕ) (blocked allow : List Range) (y : ℕ) (c : Candidate a
           (λ t. climb-from w.start ok low (omega arith) (omega (arith, leb-false low w.start t)) c.from in_low)
 
 -- THE LAW: it is the lowest candidate, or there is none. For every alignment: of 0 only 0 is a multiple
-pub place-lowest : (a n low : ℕ) (blocked allow : List Range) → Lowest (Candidate a n low blocked allow) (spot_of (place_of a n low blocked allow))
+pub place-lowest : (a n low : ℕ) (blocked allow : List Range) → Lowest (Candidate a n low blocked allow) (place_of a n low blocked allow)
 unfolding place_of
 place-lowest a n low blocked allow = go (lowest_of (is_candidate a n low blocked allow) (starts a low blocked allow)) (lowest-in (is_candidate a n low blocked allow) (starts a low blocked allow))
   where
-    go : (o : Option ℕ) → LowestIn (is_candidate a n low blocked allow) (starts a low blocked allow) o → Lowest (Candidate a n low blocked allow) (spot_of o)
-    go (some x) h = (is_candidate-is a n low blocked allow x h.0, λ y c. h.1 y (some-start a n low blocked allow y c))
-    go none h = λ y c. h y (some-start a n low blocked allow y c)
+    go : (o : Option ℕ) → LowestIn (is_candidate a n low blocked allow) (starts a low blocked allow) o → Lowest (Candidate a n low blocked allow) o
+    go (Some x) h = (is_candidate-is a n low blocked allow x h.0, λ y c. h.1 y (some-start a n low blocked allow y c))
+    go None h = λ y c. h y (some-start a n low blocked allow y c)

@@ -1,5 +1,5 @@
 -- A pass over one list of ranges and then, from where it ended, over another is a pass over both; the jumps add up.
-use Rattle.std.specs.Prelude.{ℕ, ◌+◌, ◌≤◌, ◌<◌, ◌≡◌, false, List, [], ◌∷◌, ◌++◌, leb, length}
+use Rattle.std.specs.Prelude.{ℕ, ◌+◌, ◌≤◌, ◌<◌, ◌≡◌, false, List, [], ◌∷◌, ◌++◌, leb, length, Option, None, Some}
 use Rattle.std.proofs.Common.{sym, ◌∙◌, subst, arith, leb-true, le-leb}
 use Rattle.lists.specs.Tests.{only_if, only_if-mono, or_not_left, or_not_right, or_neither}
 use Rattle.lists.specs.Search.{any, any-nil, any-cons, any_append}
@@ -7,8 +7,6 @@ use Rattle.lists.specs.Each.{Each-of}
 use Rattle.lists.specs.Sums.{sum_of-append, sum_of-le, count_of}
 use Rattle.ranges.specs.declared.Range.{Range}
 use Rattle.ranges.specs.Ranges.{share, span}
-use Rattle.alignment.specs.declared.Spot.{Spot}
-use Rattle.alignment.specs.declared.Spot.TheVariants.{Nowhere, At}
 use Rattle.placement.specs.Jumps.{past_of, jumps_to, ending, Free, Onward, Never, Swept}
 use Rattle.placement.specs.Sweeping.{ending-most, onward-here, onward_then, onward-never, past-free, past-onward, past-still}
 
@@ -63,9 +61,9 @@ module _ (a n : ℕ) (xs ys : List Range) where
   never-left x j o = record { none = λ z f h. o.none z (free-left z f) h; fewer = omega (arith, o.fewer, ending-append x xs ys) }
 
   -- THE LAW: on from where the first pass ended
-  pub swept-then : (x y : ℕ) (s : Spot) (j k : ℕ) → Swept a n xs x (At y) j → Swept a n ys y s k → Swept a n (xs ++ ys) x s (j + k)
-  swept-then x y Nowhere j k p q = onward-never a n (xs ++ ys) x y j k (onward-left x y j p.0) (never-right y k q)
-  swept-then x y (At z) j k p q = (
+  pub swept-then : (x y : ℕ) (s : Option ℕ) (j k : ℕ) → Swept a n xs x (Some y) j → Swept a n ys y s k → Swept a n (xs ++ ys) x s (j + k)
+  swept-then x y None j k p q = onward-never a n (xs ++ ys) x y j k (onward-left x y j p.0) (never-right y k q)
+  swept-then x y (Some z) j k p q = (
     onward_then a n (xs ++ ys) x y z j k (onward-left x y j p.0) (onward-right y z k q.0),
     λ e.
         let f : y ≡ x = omega (arith, e, p.0.from, q.0.from) in
@@ -75,12 +73,12 @@ module _ (a n : ℕ) (xs ys : List Range) where
   )
 
 -- a pass over nothing
-pub swept-nil : (a n x : ℕ) → x < 0x1_0000_0000_0000_0000 → Swept a n [] x (At x) 0
+pub swept-nil : (a n x : ℕ) → x < 0x1_0000_0000_0000_0000 → Swept a n [] x (Some x) 0
 swept-nil a n x h = (onward-here a n [] x h, λ e. any-nil (share (span x n)))
 
 -- a pass over one range
-pub swept-one : (a n x : ℕ) (q : Range) (s : Spot) → x < 0x1_0000_0000_0000_0000 → s ≡ past_of a n x q → (y : ℕ) → s ≡ At y
-    → Swept a n (q ∷ []) x (At y) (jumps_to x y)
+pub swept-one : (a n x : ℕ) (q : Range) (s : Option ℕ) → x < 0x1_0000_0000_0000_0000 → s ≡ past_of a n x q → (y : ℕ) → s ≡ Some y
+    → Swept a n (q ∷ []) x (Some y) (jumps_to x y)
 swept-one a n x q s h e y f = (
   past-onward a n (q ∷ []) q 0 x (omega arith) y h (sym e ∙ f),
   λ g.
@@ -89,10 +87,10 @@ swept-one a n x q s h e y f = (
       (any-nil (share (span x n))),
 )
 
-pub never-one : (a n x : ℕ) (q : Range) (s : Spot) → s ≡ past_of a n x q → s ≡ Nowhere → Never a n (q ∷ []) x 0
+pub never-one : (a n x : ℕ) (q : Range) (s : Option ℕ) → s ≡ past_of a n x q → s ≡ None → Never a n (q ∷ []) x 0
 never-one a n x q s e f = past-free a n (q ∷ []) q 0 x (omega arith) (sym e ∙ f)
 
 -- there are at most as many jumps as ranges
-pub swept-most : (a n : ℕ) (rs : List Range) (x : ℕ) (s : Spot) (j : ℕ) → Swept a n rs x s j → j ≤ length rs
-swept-most a n rs x Nowhere j p = omega (arith, p.fewer, ending-most x rs)
-swept-most a n rs x (At y) j p = omega (arith, p.0.fewer, ending-most x rs)
+pub swept-most : (a n : ℕ) (rs : List Range) (x : ℕ) (s : Option ℕ) (j : ℕ) → Swept a n rs x s j → j ≤ length rs
+swept-most a n rs x None j p = omega (arith, p.fewer, ending-most x rs)
+swept-most a n rs x (Some y) j p = omega (arith, p.0.fewer, ending-most x rs)

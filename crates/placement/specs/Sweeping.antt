@@ -1,7 +1,7 @@
 -- Jumps, one after another: the tests of one range, a pass over all of them, and how many ranges are left behind.
 use Prim.Native.Nat.{ℕ, zero, suc, ◌+◌, ◌-◌, ◌≤◌, ◌<◌, zero-le, min}
 use Rattle.std.proofs.Math.Path.{◌≡◌, sym, subst}
-use Rattle.std.specs.Prelude.{refl, Bool, not, ◌&&◌, ltb, eqb, length, get_or, drop}
+use Rattle.std.specs.Prelude.{refl, Bool, not, ◌&&◌, ltb, eqb, length, get_or, drop, Option, None, Some}
 use Rattle.std.proofs.Common.{ap, ◌∙◌, le_of_suc-le-suc, not-suc-le-zero, arith}
 use Rattle.std.proofs.Math.Bool.{true, false}
 use mathlib.Core.List.{List, [], ◌∷◌}
@@ -14,8 +14,6 @@ use Rattle.lists.specs.Sums.{sum_of, sum_of-le, count_of, count_of-length}
 use Rattle.ranges.specs.declared.Range.{Range}
 use Rattle.ranges.specs.Ranges.{U64MAX, range, share, inside, passes, passes-false, last_of, span}
 use Rattle.ranges.proofs.Spans.{last_of-fits}
-use Rattle.alignment.specs.declared.Spot.{Spot}
-use Rattle.alignment.specs.declared.Spot.TheVariants.{Nowhere, At}
 use Rattle.alignment.specs.Multiples.{multiple, round_up, Lowest, MultipleFrom, lowest_multiple, lowest-is}
 use Rattle.rangelists.specs.Listed.{listed, length-listed, get_d_listed, zero_range}
 use Rattle.placement.specs.Lowest.{touch_reaches, touch_ends}
@@ -23,7 +21,7 @@ use Rattle.placement.specs.Jumps.{past_of, jumps_to, ending, Free, Onward, Never
 
 -- ---- a number from 2^64 on has no multiple below 2^64
 
-lowest-none : (a x : ℕ) → 0x1_0000_0000_0000_0000 ≤ x → lowest_multiple a x ≡ Nowhere
+lowest-none : (a x : ℕ) → 0x1_0000_0000_0000_0000 ≤ x → lowest_multiple a x ≡ None
 unfolding lowest_multiple round_up
 lowest-none a x h =
     rw (and_not_right (multiple a (round_up a x)) (ltb (round_up a x) 0x1_0000_0000_0000_0000) (le-ltb (round_up a x) 0x1_0000_0000_0000_0000 (omega arith)))
@@ -34,15 +32,15 @@ module _ (a n x : ℕ) (q r : Range) (e : r ≡ span x n) (t : Bool) (f : t ≡ 
   touched : (b : Bool) → t ≡ b → share (span x n) q ≡ b
   touched b g = ap (λ (r : Range). share r q) (sym e) ∙ sym f ∙ g
 
-  pub past-here : not t ≡ true → At x ≡ past_of a n x q
+  pub past-here : not t ≡ true → Some x ≡ past_of a n x q
   unfolding past_of
   past-here g = rw (touched false (not-true t g))
 
-  pub past_end : not t ≡ false → q.last ≡ U64MAX → Nowhere ≡ past_of a n x q
+  pub past_end : not t ≡ false → q.last ≡ U64MAX → None ≡ past_of a n x q
   unfolding past_of
   past_end g h = rw (touched true (not-false t g)) (sym (lowest-none a (q.last + 1) (omega arith)))
 
-  pub past-on : (s : Spot) → not t ≡ false → s ≡ lowest_multiple a (q.last + 1) → s ≡ past_of a n x q
+  pub past-on : (s : Option ℕ) → not t ≡ false → s ≡ lowest_multiple a (q.last + 1) → s ≡ past_of a n x q
   unfolding past_of
   past-on s g h = rw (touched true (not-false t g)) h
 
@@ -81,11 +79,11 @@ module _ (n x : ℕ) (w : Range) where
       (λ t. and_both (not (passes x n)) (inside (span x n) w) (rw p) (and_both (leb w.start x) (leb (last_of x n) w.last) t l))
       (λ t. and_left (leb w.start x) (leb (last_of x n) w.last) (and_right (not (passes x n)) (inside (span x n) w) t))
 
-module _ (r s : Spot) where
-  pub lower-first : (x : ℕ) → r ≡ At x → s ≡ Nowhere → At x ≡ lower_of r s
+module _ (r s : Option ℕ) where
+  pub lower-first : (x : ℕ) → r ≡ Some x → s ≡ None → Some x ≡ lower_of r s
   lower-first x e f = rw (e, f)
 
-  pub lower-both : (x y m : ℕ) → r ≡ At x → s ≡ At y → m ≡ min x y → At m ≡ lower_of r s
+  pub lower-both : (x y m : ℕ) → r ≡ Some x → s ≡ Some y → m ≡ min x y → Some m ≡ lower_of r s
   lower-both x y m e f g = rw (e, f, g)
 
 -- ---- how many ranges still end at a place or above it
@@ -143,32 +141,32 @@ module _ (a n : ℕ) (rs : List Range) (d : Range) (i x : ℕ) (l : i < length r
       let p = touch_ends n x (get_or rs i d) e z h f.ends (any-false_at (share (span z n)) rs d i l f.clear) in
       record { exact = f.exact; from = omega arith; below = omega (arith, passes-false z n f.ends) }
 
-  pub past-free : past_of a n x (get_or rs i d) ≡ Nowhere → Never a n rs x 0
+  pub past-free : past_of a n x (get_or rs i d) ≡ None → Never a n rs x 0
   unfolding past_of
   past-free e = record {
     none = λ z f h.
         by-test (share (span x n) (get_or rs i d))
         (λ t.
         let m = free-past t z f h in
-        let s : lowest_multiple a ((get_or rs i d).last + 1) ≡ Nowhere = sym (rw t) ∙ e in
+        let s : lowest_multiple a ((get_or rs i d).last + 1) ≡ None = sym (rw t) ∙ e in
         subst (Lowest (MultipleFrom a ((get_or rs i d).last + 1))) s (lowest-is a ((get_or rs i d).last + 1) (omega (arith, m.from, m.below))) z m)
-        (λ t. let s : At x ≡ Nowhere = sym (rw t) ∙ e in let z : ◌≡◌ {A = ℕ} 0 1 = cc in absurd (omega arith));
+        (λ t. let s : Some x ≡ None = sym (rw t) ∙ e in let z : ◌≡◌ {A = ℕ} 0 1 = cc in absurd (omega arith));
     fewer = zero-le;
   }
 
-  module _ (y : ℕ) (b : x < 0x1_0000_0000_0000_0000) (e : past_of a n x (get_or rs i d) ≡ At y) where
+  module _ (y : ℕ) (b : x < 0x1_0000_0000_0000_0000) (e : past_of a n x (get_or rs i d) ≡ Some y) where
     -- x touches it: y is the lowest multiple past it
-    past-jump : share (span x n) (get_or rs i d) ≡ true → Lowest (MultipleFrom a ((get_or rs i d).last + 1)) (At y)
+    past-jump : share (span x n) (get_or rs i d) ≡ true → Lowest (MultipleFrom a ((get_or rs i d).last + 1)) (Some y)
     unfolding past_of
     past-jump t =
-        let s : lowest_multiple a ((get_or rs i d).last + 1) ≡ At y = sym (rw t) ∙ e in
+        let s : lowest_multiple a ((get_or rs i d).last + 1) ≡ Some y = sym (rw t) ∙ e in
         by-test (ltb ((get_or rs i d).last + 1) 0x1_0000_0000_0000_0000)
         (λ u. subst (Lowest (MultipleFrom a ((get_or rs i d).last + 1))) s (lowest-is a ((get_or rs i d).last + 1) (ltb-true ((get_or rs i d).last + 1) 0x1_0000_0000_0000_0000 u)))
         (λ u. let w = lowest-none a ((get_or rs i d).last + 1) (ltb-false ((get_or rs i d).last + 1) 0x1_0000_0000_0000_0000 u) in let z : ◌≡◌ {A = ℕ} 0 1 = cc in absurd (omega arith))
 
     past-stay : share (span x n) (get_or rs i d) ≡ false → y ≡ x
     unfolding past_of
-    past-stay t = let s : At x ≡ At y = sym (rw t) ∙ e in cc
+    past-stay t = let s : Some x ≡ Some y = sym (rw t) ∙ e in cc
 
     past-above : share (span x n) (get_or rs i d) ≡ true → x < y
     past-above t = omega (arith, (past-jump t).0.from, touch_reaches n x (get_or rs i d) t)
@@ -212,30 +210,30 @@ module _
   pub sweep_small : jumps ≤ n
   sweep_small = omega (arith, v.onward.fewer, ending-most from (listed n ss ls), length-listed n ss ls hs hl)
 
-  module _ (h : i < n) (s : Spot) (e : s ≡ past_of a size x (range (get_or ss i 0) (get_or ls i 0))) where
-    at : (r : Spot) → s ≡ r → past_of a size x (get_or (listed n ss ls) i zero_range) ≡ r
+  module _ (h : i < n) (s : Option ℕ) (e : s ≡ past_of a size x (range (get_or ss i 0) (get_or ls i 0))) where
+    at : (r : Option ℕ) → s ≡ r → past_of a size x (get_or (listed n ss ls) i zero_range) ≡ r
     at r f = rw (get_d_listed n ss ls hs hl i h) (sym e ∙ f)
 
     place : i < length (listed n ss ls)
     place = rw (length-listed n ss ls hs hl) h
 
-    pub sweep_never : s ≡ Nowhere → Never a size (listed n ss ls) from jumps
+    pub sweep_never : s ≡ None → Never a size (listed n ss ls) from jumps
     sweep_never f =
         let z : jumps + 0 ≡ jumps = omega arith in rw (← z)
-        (onward-never a size (listed n ss ls) from x jumps 0 v.onward (past-free a size (listed n ss ls) zero_range i x place (at Nowhere f)))
+        (onward-never a size (listed n ss ls) from x jumps 0 v.onward (past-free a size (listed n ss ls) zero_range i x place (at None f)))
 
-    pub sweep_on : (y j : ℕ) → s ≡ At y → j ≡ jumps_to x y → Sweeping a size (listed n ss ls) from y (jumps + j) (i + 1)
+    pub sweep_on : (y j : ℕ) → s ≡ Some y → j ≡ jumps_to x y → Sweeping a size (listed n ss ls) from y (jumps + j) (i + 1)
     sweep_on y j f g = record {
       onward = onward_then a size (listed n ss ls) from x y jumps j v.onward (rw g step);
       still = λ q.
           let k : y ≡ x = omega (arith, v.onward.from, step.from) in
           let m : x ≡ from = omega (arith, k, q) in
           any-on (share (span from size)) (listed n ss ls) i (v.still m) zero_range place
-          (subst (λ (u : ℕ). share (span u size) (get_or (listed n ss ls) i zero_range) ≡ false) m (past-still a size (listed n ss ls) zero_range i x place y v.onward.below (at (At y) f) k));
+          (subst (λ (u : ℕ). share (span u size) (get_or (listed n ss ls) i zero_range) ≡ false) m (past-still a size (listed n ss ls) zero_range i x place y v.onward.below (at (Some y) f) k));
     }
       where
         step : Onward a size (listed n ss ls) x y (jumps_to x y)
-        step = past-onward a size (listed n ss ls) zero_range i x place y v.onward.below (at (At y) f)
+        step = past-onward a size (listed n ss ls) zero_range i x place y v.onward.below (at (Some y) f)
 
-  pub sweep_end : n ≤ i → Swept a size (listed n ss ls) from (At x) jumps
+  pub sweep_end : n ≤ i → Swept a size (listed n ss ls) from (Some x) jumps
   sweep_end h = (v.onward, λ e. sym (any-end (share (span from size)) (listed n ss ls) i (v.still e) (rw (length-listed n ss ls hs hl) h)))

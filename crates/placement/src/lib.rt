@@ -5,8 +5,7 @@ ghost use Rattle.std.specs.Prelude.{◌≡◌, ◌-◌, ◌≤◌, length};
 ghost use Rattle.rangelists.specs.Listed.{listed};
 ghost use Rattle.placement.specs.Jumps.{past_of, jumps_to, Swept, room_at, lower_of};
 
-use alignment::Spot;
-use ranges::{Range, U64MAX};
+use ranges::Range;
 
 // What is looked for: so many bytes from a multiple of the alignment on, at low or above it.
 #[derive(Clone, Copy)]
@@ -19,28 +18,25 @@ pub struct Want {
 // Where a search ended, and how often it jumped.
 #[derive(Clone, Copy)]
 pub struct Search {
-    pub spot: Spot,
+    pub spot: Option<u64>,
     pub jumps: usize,
 }
 
 // The next place from x on at which q is not touched: x itself, or the lowest multiple past q.
-pub fn past(w: Want, x: u64, q: Range) -> Spot
+pub fn past(w: Want, x: u64, q: Range) -> Option<u64>
     ensures { result ≡ past_of w.alignment w.length x q }
 {
     if !ranges::shares(ranges::span_of(x, w.length), q) {
-        return Spot::At(x);
+        return Some(x);
     }
-    if q.last == U64MAX {
-        return Spot::Nowhere;
-    }
-    alignment::lowest_multiple(w.alignment, q.last + 1)
+    alignment::lowest_multiple(w.alignment, q.last.checked_add(1)?)
 }
 
 // The jumps from x to the next place y.
 fn jumps_to(x: u64, y: u64) -> usize
     ensures { result ≡ jumps_to x y }
 {
-    if x == y { 0 } else { 1 }
+    usize::from(x != y)
 }
 
 // One pass over the ranges. After a jump it goes on with the next range: those before it are seen again by the next pass.
@@ -50,25 +46,19 @@ pub fn sweep<'a>(starts: &'a [u64], lasts: &'a [u64], n: usize, w: Want, from: u
 {
     let mut x = from;
     let mut jumps: usize = 0;
-    let mut i: usize = 0;
-    while i < n {
+    for i in 0..n {
         let q = Range {
             start: starts[i],
             last: lasts[i],
         };
-        let s = past(w, x, q);
-        let Spot::At(y) = s else {
-            return Search {
-                spot: Spot::Nowhere,
-                jumps,
-            };
+        let Some(y) = past(w, x, q) else {
+            return Search { spot: None, jumps };
         };
         jumps += jumps_to(x, y);
         x = y;
-        i += 1;
     }
     Search {
-        spot: Spot::At(x),
+        spot: Some(x),
         jumps,
     }
 }
@@ -77,10 +67,7 @@ pub fn sweep<'a>(starts: &'a [u64], lasts: &'a [u64], n: usize, w: Want, from: u
 pub fn behind(length: u64) -> u64
     ensures { result ≡ length - 1 }
 {
-    if length == 0 {
-        return 0;
-    }
-    length - 1
+    length.saturating_sub(1)
 }
 
 // Whether the bytes from x on end by U64MAX and inside the window, told without their last address.
@@ -88,24 +75,18 @@ pub fn has_room(length: u64, x: u64, window: Range) -> bool
     ensures { result ≡ room_at length x window }
 {
     let more = behind(length);
-    if window.last < more {
-        return false;
-    }
-    if window.last - more < x {
-        return false;
-    }
-    window.start <= x
+    more <= window.last && x <= window.last - more && window.start <= x
 }
 
 // The lower of two places.
-pub fn lower_spot(a: Spot, b: Spot) -> Spot
+pub fn lower_spot(a: Option<u64>, b: Option<u64>) -> Option<u64>
     ensures { result ≡ lower_of a b }
 {
-    match a {
-        Spot::Nowhere => b,
-        Spot::At(x) => match b {
-            Spot::Nowhere => a,
-            Spot::At(y) => Spot::At(ranges::lower(x, y)),
-        },
-    }
+    let Some(x) = a else {
+        return b;
+    };
+    let Some(y) = b else {
+        return a;
+    };
+    Some(x.min(y))
 }

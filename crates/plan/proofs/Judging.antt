@@ -1,26 +1,20 @@
 -- A plan is bad where it is longer, cut, overlong or refused, and ready otherwise.
 use Prim.Native.Nat.{ℕ, ◌+◌, ◌≤◌, ◌<◌, min}
 use mathlib.Core.Path.{◌≡◌, refl, sym, ap, ◌∙◌}
-use mathlib.Core.Bool.{true, false, not, ◌&&◌}
+use mathlib.Core.Bool.{Bool, true, false, ◌&&◌}
+use Rattle.std.specs.Prelude.{Option, Some, None, is_some}
 use mathlib.Core.List.{List}
 use native.Mathlib.Omega.{arith}
 use lib.ListN.{length}
 use borrow.Author.Tests.{le-leb, lt-leb, eq-eqb, ne_eqb}
-use Rattle.lists.specs.Tests.{by-test, and_left}
 use Rattle.wire.specs.Fields.{field}
-use Rattle.rules_calls.specs.declared.Answer.{Answer}
-use Rattle.rules_calls.specs.Answers.{fresh_answer}
+use Rattle.rules_table.specs.declared.Table.{Table}
 use Rattle.plan_shape.specs.declared.Section.TheVariants.{Devices, Attachments, Commands}
-use Rattle.plan_setup.specs.declared.Setup.{Setup}
 use Rattle.plan.specs.declared.Ready.{Ready}
 use Rattle.plan_shape.specs.Plan.{items_end, section_end, attachments_at, commands_at, plan_end, whole, plan_of}
 use Rattle.plan_setup.specs.Setting.{set_up}
-use Rattle.plan.specs.Running.{bad_plan, good_plan, is_ready, ready_of}
+use Rattle.plan.specs.Running.{good_plan, judged, is_ready, ready_of}
 use Rattle.plan_shape.specs.Ends.{section_capped, whole_length, whole-end}
-
-pub bad-is : (a : Answer) → a ≡ fresh_answer 0 → record { good = false; at = 0; count = 0; table = a.table } ≡ bad_plan
-unfolding bad_plan
-bad-is a e = rw e
 
 module _ (bs : List ℕ) (x y : ℕ) (ex : x ≡ min (section_end Devices bs 12) (length bs + 1)) (ey : y ≡ min (section_end Attachments bs x) (length bs + 1)) where
   pub commands-end : y ≡ min (commands_at bs) (length bs + 1)
@@ -32,29 +26,30 @@ module _ (bs : List ℕ) (x y : ℕ) (ex : x ≡ min (section_end Devices bs 12)
   plan-end z ez = section_capped Commands bs (commands_at bs) y z commands-end ez
 
 module _ (bs : List ℕ) where
-  not_ready : (r : Ready) → (whole bs && not (set_up (plan_of bs)).refused) ≡ false → r ≡ bad_plan → r ≡ ready_of bs
-  unfolding ready_of is_ready
-  not_ready r e f = f ∙ sym (rw e)
+  not_whole : whole bs ≡ false → None ≡ ready_of bs
+  unfolding ready_of
+  not_whole e = rw e refl
 
-  pub longer : (r : Ready) → 65536 < length bs → r ≡ bad_plan → r ≡ ready_of bs
+  pub longer : 65536 < length bs → None ≡ ready_of bs
   unfolding whole
-  longer r h f = not_ready r (rw (lt-leb (length bs) 65536 h) refl) f
+  longer h = not_whole (rw (lt-leb (length bs) 65536 h) refl)
 
-  pub cut-or_over : (r : Ready) → length bs ≤ 65536 → (plan_end bs ≡ length bs → ⊥) → r ≡ bad_plan → r ≡ ready_of bs
+  pub cut-or_over : length bs ≤ 65536 → (plan_end bs ≡ length bs → ⊥) → None ≡ ready_of bs
   unfolding whole
-  cut-or_over r h n f = not_ready r (rw (le-leb (length bs) 65536 h, ne_eqb (plan_end bs) (length bs) n) refl) f
+  cut-or_over h n = not_whole (rw (le-leb (length bs) 65536 h, ne_eqb (plan_end bs) (length bs) n) refl)
 
   is_whole : length bs ≤ 65536 → plan_end bs ≡ length bs → whole bs ≡ true
   unfolding whole
   is_whole h e = rw (le-leb (length bs) 65536 h, eq-eqb (plan_end bs) (length bs) e) refl
 
-  pub refused-plan : (s : Setup) (r : Ready) → length bs ≤ 65536 → plan_end bs ≡ length bs → s ≡ set_up (plan_of bs) → s.refused ≡ true → r ≡ bad_plan → r ≡ ready_of bs
-  refused-plan s r h e es g f = not_ready r (rw (is_whole h e, ← es, g) refl) f
+  pub refused-plan : length bs ≤ 65536 → plan_end bs ≡ length bs → None ≡ set_up (plan_of bs) → None ≡ ready_of bs
+  unfolding ready_of
+  refused-plan h e f = rw (is_whole h e, ← f) refl
 
-  pub ready_plan : (s : Setup) (x n : ℕ) → length bs ≤ 65536 → plan_end bs ≡ length bs → s ≡ set_up (plan_of bs) → s.refused ≡ false → x ≡ commands_at bs → n ≡ field 4 bs x
-      → record { good = true; at = x + 4; count = n; table = s.table } ≡ ready_of bs
-  unfolding ready_of is_ready good_plan
-  ready_plan s x n h e es g ex en = rw (is_whole h e, ← es, g, en, ex) refl
+  pub ready_plan : (t : Table) (x n : ℕ) → length bs ≤ 65536 → plan_end bs ≡ length bs → Some t ≡ set_up (plan_of bs) → x ≡ commands_at bs → n ≡ field 4 bs x
+      → Some (record { at = x + 4; count = n; table = t }) ≡ ready_of bs
+  unfolding ready_of good_plan
+  ready_plan t x n h e f ex en = rw (is_whole h e, ← f, en, ex) refl
 
 pub plan-commands : (bs : List ℕ) → items_end Commands (field 4 bs (commands_at bs)) bs (commands_at bs + 4) ≡ plan_end bs
 unfolding plan_end section_end
@@ -62,21 +57,38 @@ plan-commands bs = refl
 
 -- ---- what a plan that is ready lets its reader do
 
-pub ready_good : (bs : List ℕ) (r : Ready) → r ≡ ready_of bs → r.good ≡ is_ready bs
-unfolding ready_of bad_plan good_plan
-ready_good bs r e = ap (λ (x : Ready). x.good) e ∙ by-test (is_ready bs) (λ h. rw h refl) (λ h. rw h refl)
+-- whether a plan is ready, by its two parts
+judged-some : (w : Bool) (bs : List ℕ) (s : Option Table) → is_some (judged w bs s) ≡ (w && is_some s)
+judged-some true bs (Some t) = refl
+judged-some true bs None = refl
+judged-some false bs s = refl
 
-module _ (bs : List ℕ) (r : Ready) (e : r ≡ ready_of bs) (g : r.good ≡ true) where
+judged-good : (w : Bool) (bs : List ℕ) (s : Option Table) (r : Ready) → Some r ≡ judged w bs s → (w ≡ true) × (s ≡ Some r.table) × (r ≡ good_plan bs r.table)
+unfolding good_plan
+judged-good true bs (Some t) r e = let f : r ≡ good_plan bs t = cc in (refl, rw f refl, rw f refl)
+judged-good true bs None r e = absurd (cc)
+judged-good false bs s r e = absurd (cc)
+
+pub ready_good : (bs : List ℕ) → is_some (ready_of bs) ≡ is_ready bs
+unfolding ready_of is_ready
+ready_good bs = judged-some (whole bs) bs (set_up (plan_of bs))
+
+module _ (bs : List ℕ) (r : Ready) (e : Some r ≡ ready_of bs) where
   pub ready_test : is_ready bs ≡ true
-  ready_test = sym (ready_good bs r e) ∙ g
+  ready_test = sym (ready_good bs) ∙ ap is_some (sym e)
+
+  parts : (whole bs ≡ true) × (set_up (plan_of bs) ≡ Some r.table) × (r ≡ good_plan bs r.table)
+  unfolding ready_of
+  parts = judged-good (whole bs) bs (set_up (plan_of bs)) r e
 
   ready_whole : whole bs ≡ true
-  unfolding is_ready
-  ready_whole = and_left (whole bs) (not (set_up (plan_of bs)).refused) ready_test
+  ready_whole = parts.0
 
-  pub ready_is : r ≡ good_plan bs (set_up (plan_of bs)).table
-  unfolding ready_of
-  ready_is = e ∙ rw ready_test
+  pub ready_set : set_up (plan_of bs) ≡ Some r.table
+  ready_set = parts.1
+
+  pub ready_is : r ≡ good_plan bs r.table
+  ready_is = parts.2
 
   -- no longer than the program's buffers, and its commands end with it
   pub ready_length : length bs ≤ 65536
@@ -84,4 +96,7 @@ module _ (bs : List ℕ) (r : Ready) (e : r ≡ ready_of bs) (g : r.good ≡ tru
 
   pub ready_room : items_end Commands r.count bs r.at ≤ length bs
   unfolding good_plan
-  ready_room = rw ready_is (omega (arith, plan-commands bs, whole-end bs ready_whole))
+  ready_room =
+      let c : r.count ≡ field 4 bs (commands_at bs) = ap (λ (x : Ready). x.count) ready_is in
+      let a : r.at ≡ commands_at bs + 4 = ap (λ (x : Ready). x.at) ready_is in
+      rw (c, a) (omega (arith, plan-commands bs, whole-end bs ready_whole))

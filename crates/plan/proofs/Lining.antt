@@ -2,32 +2,31 @@
 use Prim.Native.Nat.{ℕ, zero, suc, ◌+◌, ◌-◌, ◌*◌, ◌≤◌, ◌<◌}
 use mathlib.Core.Path.{◌≡◌, refl, sym, ap, ◌∙◌}
 use mathlib.Core.Bool.{Bool, true, false}
+use Rattle.std.specs.Prelude.{Some, None, is_some}
 use mathlib.Core.List.{List, [], ◌∷◌, ◌++◌, map, append_assoc, append-nil}
 use native.Mathlib.Nat.{le_of_suc-le-suc, not-suc-le-zero}
 use native.Mathlib.Numerals.{add-one}
 use native.Mathlib.Omega.{arith}
 use lib.IntN.{ℤ}
 use lib.ListN.{length, take, set}
-use mir.Syntax.{w32}
-use mir.Val.{to_z, of_z}
 use Rattle.wire.specs.Fields.{field}
 use Rattle.rules_table.specs.declared.Table.{Table}
 use Rattle.plan_shape.specs.declared.Section.TheVariants.{Commands}
 use Rattle.plan.specs.declared.Ready.{Ready}
 use Rattle.plan_commands.specs.declared.Ran.{Ran}
-use Rattle.plan_shape.specs.Plan.{command_end, item_end, items_end, order_at, orders, plan_of}
+use Rattle.plan_shape.specs.Plan.{commands_at, command_end, item_end, items_end, order_at, orders, plan_of}
 use Rattle.plan_commands.specs.Ran.{answer_to, ran_by, ran_at}
 use Rattle.plan.specs.Running.{Line, request_of, result_of, charge_of, line_by, lines_from, lines_of, is_ready, ready_of, good_plan, shown}
 use Rattle.plan_shape.specs.Ends.{item_from, items_turn}
-use Rattle.plan.proofs.Judging.{ready_good, ready_test, ready_is, ready_length, ready_room}
+use Rattle.plan.proofs.Judging.{ready_good, ready_test, ready_set, ready_is, ready_length, ready_room}
 
 pub command-room : (bs : List ℕ) (at : ℕ) → item_end Commands bs at ≤ length bs → at + (12 + field 4 bs (at + 4) + field 4 bs (at + 8)) ≤ length bs
 unfolding item_end command_end
 command-room bs at h = h
 
-pub items_after : (left : ℕ) (bs : List ℕ) (at : ℕ) (t : Table) (r : Ran) → items_end Commands left bs at ≤ length bs → 0 < left → r ≡ ran_at t bs at → items_end Commands (left - 1) bs r.next ≤ length bs
+pub items_after : (left m : ℕ) (bs : List ℕ) (at : ℕ) (t : Table) (r : Ran) → items_end Commands left bs at ≤ length bs → 0 < left → m ≡ left - 1 → r ≡ ran_at t bs at → items_end Commands m bs r.next ≤ length bs
 unfolding ran_at ran_by
-items_after left bs at t r room h e = rw e (omega (arith, room, items_turn Commands bs left at h))
+items_after left m bs at t r room h f e = rw (f, e) (omega (arith, room, items_turn Commands bs left at h))
 
 -- ---- the next line
 
@@ -54,11 +53,15 @@ take_stored [] k x h = absurd (not-suc-le-zero h)
 take_stored (y ∷ ys) zero x h = refl
 take_stored (y ∷ ys) (suc k) x h = ap (λ r. y ∷ r) (take_stored ys k x (le_of_suc-le-suc h))
 
+pub filled_none : {A : Type 0} (f : Line → A) (m n : ℕ) (bs : List ℕ) (at : ℕ) (t : Table) → m ≡ n → map f (lines_from 0 t (orders m bs at)) ≡ map f (lines_from 0 t (orders n bs at))
+filled_none f m n bs at t e = rw e refl
+
 module _ {A : Type 0} (f : Line → A) (left : ℕ) (bs : List ℕ) (at k : ℕ) (t : Table) (xs : List A) {r : List A} (v : take k xs ++ map f (lines_from k t (orders left bs at)) ≡ r) where
-  pub filled_on : (s : Ran) → 0 < left → s ≡ ran_at t bs at → k < length xs
-      → take (k + 1) (set xs k (f (line_of k s))) ++ map f (lines_from (k + 1) s.table (orders (left - 1) bs s.next)) ≡ r
-  filled_on s h e l =
-      ap (λ (n : ℕ). take n (set xs k (f (line_of k s))) ++ map f (lines_from (k + 1) s.table (orders (left - 1) bs s.next))) (add-one k)
+  pub filled_on : (s : Ran) (m : ℕ) → 0 < left → m ≡ left - 1 → s ≡ ran_at t bs at → k < length xs
+      → take (k + 1) (set xs k (f (line_of k s))) ++ map f (lines_from (k + 1) s.table (orders m bs s.next)) ≡ r
+  filled_on s m h i e l =
+      ap (λ (n : ℕ). take (k + 1) (set xs k (f (line_of k s))) ++ map f (lines_from (k + 1) s.table (orders n bs s.next))) i
+      ∙ ap (λ (n : ℕ). take n (set xs k (f (line_of k s))) ++ map f (lines_from (k + 1) s.table (orders (left - 1) bs s.next))) (add-one k)
       ∙ ap (λ (ys : List A). ys ++ map f (lines_from (k + 1) s.table (orders (left - 1) bs s.next))) (take_stored xs k (f (line_of k s)) l)
       ∙ append_assoc (take k xs) (f (line_of k s) ∷ []) (map f (lines_from (k + 1) s.table (orders (left - 1) bs s.next)))
       ∙ ap (λ (ls : List Line). take k xs ++ map f ls) (sym (lines-turn left bs at k t s h e))
@@ -70,11 +73,11 @@ module _ {A : Type 0} (f : Line → A) (left : ℕ) (bs : List ℕ) (at k : ℕ)
       ap (λ (m : ℕ). take m xs) g ∙ sym (append-nil (take k xs)) ∙ ap (λ (ls : List Line). take k xs ++ map f ls) (sym (lines_none left bs at k t h)) ∙ v
 
 -- a signed number comes back from its bits
-pub signed_on : (left : ℕ) (bs : List ℕ) (at k : ℕ) (t : Table) (xs : List ℤ) {r : List ℤ} → take k xs ++ map result_of (lines_from k t (orders left bs at)) ≡ r → (s : Ran) → 0 < left → s ≡ ran_at t bs at → k < length xs
-    → to_z w32 (of_z w32 s.result) ≡ s.result
-    → take (k + 1) (set xs k (to_z w32 (of_z w32 s.result))) ++ map result_of (lines_from (k + 1) s.table (orders (left - 1) bs s.next)) ≡ r
-signed_on left bs at k t xs v s h e l z =
-    ap (λ (y : ℤ). take (k + 1) (set xs k y) ++ map result_of (lines_from (k + 1) s.table (orders (left - 1) bs s.next))) z ∙ filled_on result_of left bs at k t xs v s h e l
+pub signed_on : (left : ℕ) (bs : List ℕ) (at k : ℕ) (t : Table) (xs : List ℤ) {r : List ℤ} → take k xs ++ map result_of (lines_from k t (orders left bs at)) ≡ r → (s : Ran) (m : ℕ) → 0 < left → m ≡ left - 1 → s ≡ ran_at t bs at → k < length xs
+    → (z : ℤ) → z ≡ s.result
+    → take (k + 1) (set xs k z) ++ map result_of (lines_from (k + 1) s.table (orders m bs s.next)) ≡ r
+signed_on left bs at k t xs v s m h i e l z y =
+    ap (λ (x : ℤ). take (k + 1) (set xs k x) ++ map result_of (lines_from (k + 1) s.table (orders m bs s.next))) y ∙ filled_on result_of left bs at k t xs v s m h i e l
 
 -- ---- the whole plan
 
@@ -98,23 +101,26 @@ abbrev pub Answers : List ℕ → Bool → ℕ → List ℕ → List ℤ → Lis
 Answers bs good count requests results charges =
     (good ≡ is_ready bs) × (count ≡ length (shown bs)) × (take count requests ≡ map request_of (shown bs)) × (take count results ≡ map result_of (shown bs)) × (take count charges ≡ map charge_of (shown bs))
 
-pub bad-answers : (bs : List ℕ) (r : Ready) → r ≡ ready_of bs → r.good ≡ false → (requests : List ℕ) (results : List ℤ) (charges : List ℕ) → Answers bs false 0 requests results charges
-bad-answers bs r e g requests results charges =
-    let h : is_ready bs ≡ false = sym (ready_good bs r e) ∙ g in
+pub bad-answers : (bs : List ℕ) → None ≡ ready_of bs → (requests : List ℕ) (results : List ℤ) (charges : List ℕ) → Answers bs false 0 requests results charges
+bad-answers bs e requests results charges =
+    let h : is_ready bs ≡ false = sym (ready_good bs) ∙ ap is_some (sym e) in
     let n : shown bs ≡ [] = bad-shown bs h in
     (sym h, sym (ap length n), sym (ap (map request_of) n), sym (ap (map result_of) n), sym (ap (map charge_of) n))
 
-module _ (bs : List ℕ) (r : Ready) (e : r ≡ ready_of bs) (g : r.good ≡ true) where
+module _ (bs : List ℕ) (r : Ready) (e : Some r ≡ ready_of bs) where
   good-shown : lines_from 0 r.table (orders r.count bs r.at) ≡ shown bs
   unfolding shown lines_of plan_of good_plan
-  good-shown = rw (ready_is bs r e g, ready_test bs r e g) refl
+  good-shown =
+      let c : r.count ≡ field 4 bs (commands_at bs) = ap (λ (x : Ready). x.count) (ready_is bs r e) in
+      let a : r.at ≡ commands_at bs + 4 = ap (λ (x : Ready). x.at) (ready_is bs r e) in
+      rw (ready_test bs r e, ready_set bs r e, c, a) refl
 
   pub good-fits : r.count ≤ 8192
-  good-fits = omega (arith, items_count bs r.count r.at, ready_room bs r e g, ready_length bs r e g)
+  good-fits = omega (arith, items_count bs r.count r.at, ready_room bs r e, ready_length bs r e)
 
   pub good-answers : (requests : List ℕ) (results : List ℤ) (charges : List ℕ)
       → take r.count requests ≡ map request_of (lines_from 0 r.table (orders r.count bs r.at))
       → take r.count results ≡ map result_of (lines_from 0 r.table (orders r.count bs r.at))
       → take r.count charges ≡ map charge_of (lines_from 0 r.table (orders r.count bs r.at)) → Answers bs true r.count requests results charges
   good-answers requests results charges a b c =
-      (sym (ready_test bs r e g), sym (lines-count r.count bs r.at 0 r.table) ∙ ap length good-shown, a ∙ ap (map request_of) good-shown, b ∙ ap (map result_of) good-shown, c ∙ ap (map charge_of) good-shown)
+      (sym (ready_test bs r e), sym (lines-count r.count bs r.at 0 r.table) ∙ ap length good-shown, a ∙ ap (map request_of) good-shown, b ∙ ap (map result_of) good-shown, c ∙ ap (map charge_of) good-shown)

@@ -1,10 +1,9 @@
 -- A plan is ready where it is whole and its setup is not refused. Then its commands run one by one, each on the table of the one before it.
-use Rattle.std.specs.Prelude.{ℕ, ◌+◌, Bool, true, false, not, ◌&&◌, List, [], ◌∷◌, ℤ}
+use Rattle.std.specs.Prelude.{ℕ, ◌+◌, Bool, true, false, ◌&&◌, List, [], ◌∷◌, Option, Some, None, is_some, ℤ}
 use Rattle.wire.specs.Fields.{field}
 use Rattle.rules_table.specs.declared.Table.{Table}
 use Rattle.rules_table.specs.Charge.{charge}
 use Rattle.rules_calls.specs.declared.Answer.{Answer}
-use Rattle.rules_calls.specs.Answers.{fresh_answer}
 use Rattle.plan.specs.declared.Ready.{Ready}
 use Rattle.plan_shape.specs.Plan.{commands_at, whole, Order, Plan, plan_of}
 use Rattle.plan_setup.specs.Setting.{set_up}
@@ -12,22 +11,21 @@ use Rattle.plan_commands.specs.Ran.{answer_to}
 
 -- ---- before anything is printed
 
-unfoldable pub bad_plan : Ready
-bad_plan = record { good = false; at = 0; count = 0; table = (fresh_answer 0).table }
-
 unfoldable pub good_plan : List ℕ → Table → Ready
-good_plan bs t = record { good = true; at = commands_at bs + 4; count = field 4 bs (commands_at bs); table = t }
+good_plan bs t = record { at = commands_at bs + 4; count = field 4 bs (commands_at bs); table = t }
 
-abbrev pub judged : Bool → List ℕ → Table → Ready
-judged true bs t = good_plan bs t
-judged false bs t = bad_plan
+-- none where the plan is bad
+abbrev pub judged : Bool → List ℕ → Option Table → Option Ready
+judged true bs (Some t) = Some (good_plan bs t)
+judged true bs None = None
+judged false bs s = None
 
 -- whole, and not refused
 unfoldable pub is_ready : List ℕ → Bool
-is_ready bs = whole bs && not (set_up (plan_of bs)).refused
+is_ready bs = whole bs && is_some (set_up (plan_of bs))
 
-unfoldable pub ready_of : List ℕ → Ready
-ready_of bs = judged (is_ready bs) bs (set_up (plan_of bs)).table
+unfoldable pub ready_of : List ℕ → Option Ready
+ready_of bs = judged (whole bs) bs (set_up (plan_of bs))
 
 -- ---- the commands
 
@@ -54,8 +52,13 @@ unfoldable pub lines_from : ℕ → Table → List Order → List Line
 lines_from k t [] = []
 lines_from k t (o ∷ os) = line_by k o (answer_to t o) ∷ lines_from (k + 1) (answer_to t o).table os
 
+-- none where the setup was refused
+abbrev pub lines_after : Option Table → List Order → List Line
+lines_after None os = []
+lines_after (Some t) os = lines_from 0 t os
+
 unfoldable pub lines_of : Plan → List Line
-lines_of p = lines_from 0 (set_up p).table p.commands
+lines_of p = lines_after (set_up p) p.commands
 
 abbrev pub shown_if : Bool → Plan → List Line
 shown_if true p = lines_of p

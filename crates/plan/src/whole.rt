@@ -1,9 +1,9 @@
 // A whole plan run: the numbers of its lines go into lent slices, so that nothing is printed before all of it was read.
-ghost use Rattle.std.specs.Prelude.{map, ◌≡◌, ◌≤◌, length, take};
+ghost use Rattle.std.specs.Prelude.{map, ◌≡◌, ◌≤◌, length, take, is_some, unwrap_or};
 ghost use Rattle.plan_shape.specs.Plan.{items_end, orders};
 ghost use Rattle.plan.specs.Running.{request_of, result_of, charge_of, lines_from, is_ready, shown};
 
-use crate::{Outcome, judge};
+use crate::judge;
 use plan_commands::run_at;
 use plan_shape::Section;
 use rules_table::Table;
@@ -25,23 +25,17 @@ fn run_all(
 {
     let mut t = first;
     let mut at = from;
-    let mut left = n;
-    let mut k: usize = 0;
-    while 0 < left {
+    for k in 0..n as usize {
         let ran = run_at(t, s, at, cmd, area);
-        let result = ran.result;
         requests[k] = ran.request;
-        results[k] = result;
+        results[k] = ran.result;
         charges[k] = ran.charge;
-        let next = ran.table;
-        t = next;
+        t = ran.table;
         at = ran.next;
-        left -= 1;
-        k += 1;
     }
 }
 
-// Judges the plan, then runs all of its commands. The buffers have room for any plan.
+// Judges the plan, then runs all of its commands: how many lines it has, None where it is bad. The buffers have room for any plan.
 pub fn run(
     s: &[u8],
     cmd: &mut [u8],
@@ -49,21 +43,13 @@ pub fn run(
     requests: &mut [u32],
     results: &mut [i32],
     charges: &mut [u64],
-) -> Outcome
+) -> Option<usize>
     requires { (65536 ≤ length cmd.old) × (65536 ≤ length area.old) × (8192 ≤ length requests.old) × (8192 ≤ length results.old) × (8192 ≤ length charges.old) }
-    ensures { (result.good ≡ is_ready s.now) × (result.count ≡ length (shown s.now)) × (take result.count requests.new ≡ map request_of (shown s.now)) × (take result.count results.new ≡ map result_of (shown s.now)) × (take result.count charges.new ≡ map charge_of (shown s.now)) }
+    ensures { (is_some result ≡ is_ready s.now) × (unwrap_or result 0 ≡ length (shown s.now)) × (take (unwrap_or result 0) requests.new ≡ map request_of (shown s.now)) × (take (unwrap_or result 0) results.new ≡ map result_of (shown s.now)) × (take (unwrap_or result 0) charges.new ≡ map charge_of (shown s.now)) }
 {
-    let r = judge(s);
-    if !r.good {
-        return Outcome {
-            good: false,
-            count: 0,
-        };
-    }
-    let t = r.table;
-    run_all(t, s, r.at, r.count, cmd, area, requests, results, charges);
-    Outcome {
-        good: true,
-        count: r.count as usize,
-    }
+    let r = judge(s)?;
+    run_all(
+        r.table, s, r.at, r.count, cmd, area, requests, results, charges,
+    );
+    Some(r.count as usize)
 }

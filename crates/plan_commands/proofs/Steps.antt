@@ -4,10 +4,9 @@ use lib.IntN.{ℤ}
 use mir.Syntax.{w32}
 use mir.Val.{to_z, of_z}
 use mathlib.Core.Path.{◌≡◌, refl, ap, ◌∙◌}
-use mathlib.Core.List.{List, ◌++◌, append-nil}
+use mathlib.Core.List.{List}
 use native.Mathlib.Omega.{arith}
-use lib.ListN.{length, take, drop, drop_of_length-le}
-use lib.Seq.{take_all}
+use lib.ListN.{take, drop}
 use Rattle.wire.specs.Fields.{field}
 use Rattle.rules_table.specs.declared.Table.{Table}
 use Rattle.rules_table.specs.Charge.{charge}

@@ -2,30 +2,26 @@
 ghost use Rattle.std.specs.Prelude.{true, ◌≡◌, ◌≤◌, ◌^◌};
 ghost use Rattle.rules_table.specs.Charge.{backing_pages, charge};
 
+use ranges::pages_touched;
 use rules_table::Mapping;
 
-fn pages_of(ms: [Mapping; 128], backing: u32) -> u64
-    ensures { (result ≡ backing_pages (λ m. true) ms backing) × (result ≤ 2 ^ 53) }
+fn pages_of(ms: &[Mapping; 128], backing: u32) -> u64
+    ensures { (result ≡ backing_pages (λ m. true) ms.now backing) × (result ≤ 2 ^ 53) }
 {
-    let mut i: usize = 0;
-    while i < 128 {
-        let m = ms[i];
+    for m in ms {
         if m.backing == backing {
-            return ranges::pages_touched(m.memory, m.length);
+            return pages_touched(m.memory, m.length);
         }
-        i += 1;
     }
     0
 }
 
-pub fn charge_of(ms: [Mapping; 128]) -> u64
-    ensures { result ≡ charge ms }
+pub fn charge_of(ms: &[Mapping; 128]) -> u64
+    ensures { result ≡ charge ms.now }
 {
-    let mut sum: u64 = 0;
-    let mut backing: u32 = 0;
-    while backing < 128 {
-        backing += 1;
-        sum += pages_of(ms, backing);
+    let mut sum = 0;
+    for backing in 0..128 {
+        sum += pages_of(ms, backing + 1);
     }
     sum
 }

@@ -48,25 +48,21 @@ pub fn run_at(t: Table, s: &[u8], at: usize, cmd: &mut [u8], area: &mut [u8]) ->
     let request = wire::read32(s, at);
     let n = wire::read32(s, at + 4) as usize;
     let m = wire::read32(s, at + 8) as usize;
-    let from = at + 12;
-    let middle = from + n;
-    let to = middle + m;
-    let a = call_on(
+    let middle = at + 12 + n;
+    let next = middle + m;
+    let Answer { result, table } = call_on(
         t,
         request,
-        &s[from..middle],
-        &s[middle..to],
+        &s[at + 12..middle],
+        &s[middle..next],
         &mut cmd[..n],
         &mut area[..m],
     );
-    let table = a.table;
-    let ms = table.mappings;
-    let charge = charge_of(ms);
     Ran {
         request,
-        result: a.result,
-        charge,
-        next: to,
+        result,
+        charge: charge_of(&table.mappings),
+        next,
         table,
     }
 }

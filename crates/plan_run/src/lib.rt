@@ -4,13 +4,9 @@
 ghost use Rattle.std.specs.Prelude.{◌≤◌, length};
 ghost use Rattle.plan_run.specs.Shown.{Shows};
 
-use plan::Outcome;
-use program_lines::{number, text};
+use program_lines::{decimal, number, signed, text};
 
-// The number of standard output.
-const STDOUT_FILENO: i32 = 1;
-
-// Runs a plan: the numbers of its lines, and demand 3 of it. The buffers have room for any plan.
+// Runs a plan: how many lines it has, their numbers, and demand 3 of it. None where it is bad. The buffers have room for any plan.
 pub fn run(
     s: &[u8],
     cmd: &mut [u8],
@@ -18,7 +14,7 @@ pub fn run(
     requests: &mut [u32],
     results: &mut [i32],
     charges: &mut [u64],
-) -> Outcome
+) -> Option<usize>
     requires { (65536 ≤ length cmd.old) × (65536 ≤ length area.old) × (8192 ≤ length requests.old) × (8192 ≤ length results.old) × (8192 ≤ length charges.old) }
     ensures { Shows s.now result requests.new results.new charges.new }
 {
@@ -27,13 +23,9 @@ pub fn run(
 
 // The command's number, the request, the result, the charge after it.
 fn print_line(k: usize, request: u32, res: i32, charge: u64) {
-    io::print_decimal(STDOUT_FILENO, k as u64);
-    number(request as u64);
-    text(b" ");
-    if res < 0 {
-        text(b"-");
-    }
-    io::print_decimal(STDOUT_FILENO, plan::size_of(res));
+    decimal(k as u64);
+    number(u64::from(request));
+    signed(res);
     number(charge);
     text(b"\n");
 }
@@ -43,11 +35,8 @@ fn print_lines(count: usize, requests: &[u32], results: &[i32], charges: &[u64])
     requires { (count ≤ length requests.now) × (count ≤ length results.now) × (count ≤ length charges.now) }
 {
     text(b"step request result charge\n");
-    let mut k: usize = 0;
-    while k < count {
-        let result = results[k];
-        print_line(k, requests[k], result, charges[k]);
-        k += 1;
+    for k in 0..count {
+        print_line(k, requests[k], results[k], charges[k]);
     }
 }
 
@@ -55,13 +44,11 @@ fn print_lines(count: usize, requests: &[u32], results: &[i32], charges: &[u64])
 pub fn show(s: &[u8], cmd: &mut [u8], area: &mut [u8])
     requires { (65536 ≤ length cmd.old) × (65536 ≤ length area.old) }
 {
-    let mut requests = [0u32; 8192];
-    let mut results = [0i32; 8192];
-    let mut charges = [0u64; 8192];
-    let o = run(s, cmd, area, &mut requests, &mut results, &mut charges);
-    if !o.good {
-        text(b"bad plan\n");
-        return;
+    let mut requests = [0; 8192];
+    let mut results = [0; 8192];
+    let mut charges = [0; 8192];
+    match run(s, cmd, area, &mut requests, &mut results, &mut charges) {
+        Some(count) => print_lines(count, &requests, &results, &charges),
+        None => text(b"bad plan\n"),
     }
-    print_lines(o.count, &requests, &results, &charges);
 }

@@ -1,61 +1,53 @@
 -- The setup call by call: one law where a call is refused, one where it goes on.
-use Prim.Native.Nat.{ℕ, zero, suc, ◌+◌, ◌-◌, ◌*◌, ◌≤◌, ◌<◌}
+use Prim.Native.Nat.{ℕ, zero, suc, ◌+◌, ◌-◌, ◌*◌, ◌≤◌, ◌<◌, min}
 use mathlib.Core.Path.{◌≡◌, refl, sym, ap, ◌∙◌}
 use mathlib.Core.Bool.{true, false}
-use mathlib.Core.List.{List, [], ◌∷◌}
-use lib.IntN.{pos}
+use mathlib.Core.List.{List, []}
+use lib.IntN.{ℤ, pos}
 use mir.Syntax.{w32}
 use mir.Val.{to_z, of_z}
+use lib.ListN.{length}
 use lib.Signed.{lt_z}
+use Rattle.std.specs.Prelude.{Option, Some, None}
 use native.Mathlib.Omega.{arith}
 use Rattle.rangelists.specs.declared.Reserved.{Reserved}
 use Rattle.wire.specs.Fields.{field}
-use Rattle.rules_calls.specs.Allow.{number_at, column}
+use Rattle.rules_calls.specs.Allow.{column}
 use Rattle.rules_table.specs.declared.Table.{Table}
 use Rattle.rules_calls.specs.declared.Answer.{Answer}
 use Rattle.rules_calls.specs.Answers.{fresh_answer, outcome, outcome_id}
 use Rattle.rules_calls.specs.Orders.{bind_order, attach_order, host_edit}
 use Rattle.rules_calls.specs.Call.{call_done}
-use Rattle.plan_setup.specs.declared.Setup.{Setup}
+use Rattle.plan_shape.specs.declared.Section.{Section}
 use Rattle.plan_shape.specs.declared.Section.TheVariants.{Devices, Attachments}
-use Rattle.plan_shape.specs.Plan.{item_end, part, reserved_in, device_at, pair_at, devices, pairs, attachments_at, plan_of}
-use Rattle.plan_setup.specs.Setting.{setup_by, kept, onward, alloc_bytes, with_space, with_spaces, with_device, with_devices, with_pair, with_pairs, set_up}
+use Rattle.plan_shape.specs.Plan.{item_end, items_end, part, reserved_in, device_at, pair_at, devices, pairs, attachments_at, plan_of}
+use Rattle.plan_shape.specs.Ends.{items_room}
+use Rattle.plan_setup.specs.Setting.{setup_by, onward, alloc_bytes, with_space, with_spaces, with_device, with_devices, with_pair, with_pairs, set_up}
 
-pub setup_is : (a : Answer) → to_z w32 (of_z w32 a.result) ≡ a.result → record { refused = lt_z (to_z w32 (of_z w32 a.result)) (pos 0); table = a.table } ≡ setup_by a
+pub call_refused : (a : Answer) → to_z w32 (of_z w32 a.result) ≡ a.result → lt_z (to_z w32 (of_z w32 a.result)) (pos 0) ≡ true → None ≡ setup_by a
 unfolding setup_by
-setup_is a e = rw e refl
+call_refused a e h = let k : lt_z a.result (pos 0) ≡ true = ap (λ (z : ℤ). lt_z z (pos 0)) (sym e) ∙ h in rw k refl
 
-pub stopped : (s : Setup) (f : Table → Setup) → s.refused ≡ true → onward s f ≡ s
-unfolding onward
-stopped s f e = rw e
-
-pub went_on : (s : Setup) (f : Table → Setup) → s.refused ≡ false → onward s f ≡ f s.table
-unfolding onward
-went_on s f e = rw e
+pub call_settled : (a : Answer) → to_z w32 (of_z w32 a.result) ≡ a.result → lt_z (to_z w32 (of_z w32 a.result)) (pos 0) ≡ false → Some a.table ≡ setup_by a
+unfolding setup_by
+call_settled a e h = let k : lt_z a.result (pos 0) ≡ false = ap (λ (z : ℤ). lt_z z (pos 0)) (sym e) ∙ h in rw k refl
 
 -- ---- one call
 
-pub space-is : (t : Table) (a : Answer) (s : Setup) → a ≡ (call_done t 0x3B81 alloc_bytes []).answer → s ≡ setup_by a → s ≡ with_space t
+pub space-is : (t : Table) (a : Answer) (s : Option Table) → a ≡ (call_done t 0x3B81 alloc_bytes []).answer → s ≡ setup_by a → s ≡ with_space t
 unfolding with_space
 space-is t a s e f = f ∙ ap setup_by e
-
-pub four : (a b c d : ℕ) (p q r s : ℕ) → a ≡ p → b ≡ q → c ≡ r → d ≡ s → ◌≡◌ {A = List ℕ} (a ∷ b ∷ c ∷ d ∷ []) (p ∷ q ∷ r ∷ s ∷ [])
-four a b c d p q r s ea eb ec ed = rw (ea, eb, ec, ed)
-
-pub column-4 : (off n : ℕ) (area : List ℕ) → number_at off n 0 area ∷ number_at off n 1 area ∷ number_at off n 2 area ∷ number_at off n 3 area ∷ [] ≡ column off n 0 4 area
-unfolding column
-column-4 off n area = refl
 
 pub reserved-is : (n : ℕ) (area a b : List ℕ) → a ≡ column 0 n 0 4 area → b ≡ column 8 n 0 4 area → record { count = n; starts = a; lasts = b } ≡ reserved_in n area
 unfolding reserved_in
 reserved-is n area a b e f = rw (e, f)
 
-pub device-is : (bs : List ℕ) (at b n : ℕ) (l : Reserved) (area : List ℕ) (t : Table) (a : Answer) (s : Setup) → b ≡ field 8 bs at → n ≡ field 4 bs (at + 8)
+pub device-is : (bs : List ℕ) (at b n : ℕ) (l : Reserved) (area : List ℕ) (t : Table) (a : Answer) (s : Option Table) → b ≡ field 8 bs at → n ≡ field 4 bs (at + 8)
     → area ≡ part (at + 12) (16 * n) bs → l ≡ reserved_in n area → a ≡ outcome_id t (host_edit t (bind_order b l)) → s ≡ setup_by a → s ≡ with_device (device_at bs at) t
 unfolding with_device device_at
 device-is bs at b n l area t a s eb en ea el ec es = es ∙ ap setup_by (ec ∙ rw (el, ea, eb, en) refl)
 
-pub pair_is : (bs : List ℕ) (at d h : ℕ) (t : Table) (a : Answer) (s : Setup) → d ≡ field 4 bs at → h ≡ field 4 bs (at + 4) → a ≡ outcome t (host_edit t (attach_order d h)) → s ≡ setup_by a → s ≡ with_pair (pair_at bs at) t
+pub pair_is : (bs : List ℕ) (at d h : ℕ) (t : Table) (a : Answer) (s : Option Table) → d ≡ field 4 bs at → h ≡ field 4 bs (at + 4) → a ≡ outcome t (host_edit t (attach_order d h)) → s ≡ setup_by a → s ≡ with_pair (pair_at bs at) t
 unfolding with_pair pair_at
 pair_is bs at d h t a s ed eh ec es = es ∙ ap setup_by (ec ∙ rw (ed, eh) refl)
 
@@ -66,7 +58,7 @@ unfolding with_spaces
 spaces-turn zero t h = absurd (omega arith)
 spaces-turn (suc n) t h = let e : n ≡ suc n - 1 = omega arith in ap (λ (m : ℕ). onward (with_space t) (with_spaces m)) e
 
-pub spaces-none : (left : ℕ) (t : Table) → left ≤ 0 → with_spaces left t ≡ kept t
+pub spaces-none : (left : ℕ) (t : Table) → left ≤ 0 → with_spaces left t ≡ Some t
 unfolding with_spaces
 spaces-none zero t h = refl
 spaces-none (suc n) t h = absurd (omega arith)
@@ -76,7 +68,7 @@ unfolding with_devices devices
 devices-turn zero bs at t h = absurd (omega arith)
 devices-turn (suc n) bs at t h = let e : n ≡ suc n - 1 = omega arith in ap (λ (m : ℕ). onward (with_device (device_at bs at) t) (with_devices (devices m bs (item_end Devices bs at)))) e
 
-pub devices-none : (left : ℕ) (bs : List ℕ) (at : ℕ) (t : Table) → left ≤ 0 → with_devices (devices left bs at) t ≡ kept t
+pub devices-none : (left : ℕ) (bs : List ℕ) (at : ℕ) (t : Table) → left ≤ 0 → with_devices (devices left bs at) t ≡ Some t
 unfolding with_devices devices
 devices-none zero bs at t h = refl
 devices-none (suc n) bs at t h = absurd (omega arith)
@@ -86,66 +78,79 @@ unfolding with_pairs pairs
 pairs-turn zero bs at t h = absurd (omega arith)
 pairs-turn (suc n) bs at t h = let e : n ≡ suc n - 1 = omega arith in ap (λ (m : ℕ). onward (with_pair (pair_at bs at) t) (with_pairs (pairs m bs (item_end Attachments bs at)))) e
 
-pub pairs-none : (left : ℕ) (bs : List ℕ) (at : ℕ) (t : Table) → left ≤ 0 → with_pairs (pairs left bs at) t ≡ kept t
+pub pairs-none : (left : ℕ) (bs : List ℕ) (at : ℕ) (t : Table) → left ≤ 0 → with_pairs (pairs left bs at) t ≡ Some t
 unfolding with_pairs pairs
 pairs-none zero bs at t h = refl
 pairs-none (suc n) bs at t h = absurd (omega arith)
 
 -- a call of the work that is left, `w`: it ends the work or leads on
-module _ {w r s : Setup} (c : Setup) (f : Table → Setup) (turn : w ≡ onward c f) (v : w ≡ r) (e : s ≡ c) where
-  pub turn-stops : s.refused ≡ true → s ≡ r
-  turn-stops h = e ∙ sym (stopped c f (rw (← e) h)) ∙ sym turn ∙ v
+module _ {w r : Option Table} (c : Option Table) (f : Table → Option Table) (turn : w ≡ onward c f) (v : w ≡ r) where
+  pub turn-stops : None ≡ c → None ≡ r
+  unfolding onward
+  turn-stops e = ap (λ (x : Option Table). onward x f) e ∙ sym turn ∙ v
 
-  pub turn-goes : s.refused ≡ false → f s.table ≡ r
-  turn-goes h = rw e (sym (went_on c f (rw (← e) h))) ∙ sym turn ∙ v
+  pub turn-goes : (t : Table) → Some t ≡ c → f t ≡ r
+  unfolding onward
+  turn-goes t e = ap (λ (x : Option Table). onward x f) e ∙ sym turn ∙ v
 
--- the next device, the next attachment
-pub devices-go : (left : ℕ) (bs : List ℕ) (at x : ℕ) (t : Table) {r s : Setup} → with_devices (devices left bs at) t ≡ r → 0 < left → s ≡ with_device (device_at bs at) t → s.refused ≡ false → x ≡ item_end Devices bs at
-    → with_devices (devices (left - 1) bs x) s.table ≡ r
-devices-go left bs at x t {r} {s} v h e g f =
-    ap (λ (y : ℕ). with_devices (devices (left - 1) bs y) s.table) f
-    ∙ turn-goes (with_device (device_at bs at) t) (with_devices (devices (left - 1) bs (item_end Devices bs at))) (devices-turn left bs at t h) v e g
+-- the next space, the next device, the next attachment
+pub spaces-go : (left m : ℕ) (t u : Table) {r : Option Table} → with_spaces left t ≡ r → 0 < left → m ≡ left - 1 → Some u ≡ with_space t → with_spaces m u ≡ r
+spaces-go left m t u v h f e = ap (λ (n : ℕ). with_spaces n u) f ∙ turn-goes (with_space t) (with_spaces (left - 1)) (spaces-turn left t h) v u e
 
-pub pairs-go : (left : ℕ) (bs : List ℕ) (at x : ℕ) (t : Table) {r s : Setup} → with_pairs (pairs left bs at) t ≡ r → 0 < left → s ≡ with_pair (pair_at bs at) t → s.refused ≡ false → x ≡ item_end Attachments bs at
-    → with_pairs (pairs (left - 1) bs x) s.table ≡ r
-pairs-go left bs at x t {r} {s} v h e g f =
-    ap (λ (y : ℕ). with_pairs (pairs (left - 1) bs y) s.table) f
-    ∙ turn-goes (with_pair (pair_at bs at) t) (with_pairs (pairs (left - 1) bs (item_end Attachments bs at))) (pairs-turn left bs at t h) v e g
+pub devices-go : (left m : ℕ) (bs : List ℕ) (at x : ℕ) (t u : Table) {r : Option Table} → with_devices (devices left bs at) t ≡ r → 0 < left → m ≡ left - 1 → Some u ≡ with_device (device_at bs at) t → x ≡ item_end Devices bs at
+    → with_devices (devices m bs x) u ≡ r
+devices-go left m bs at x t u v h f e g =
+    ap (λ (n : ℕ). with_devices (devices n bs x) u) f
+    ∙ ap (λ (y : ℕ). with_devices (devices (left - 1) bs y) u) g
+    ∙ turn-goes (with_device (device_at bs at) t) (with_devices (devices (left - 1) bs (item_end Devices bs at))) (devices-turn left bs at t h) v u e
+
+pub pairs-go : (left m : ℕ) (bs : List ℕ) (at x : ℕ) (t u : Table) {r : Option Table} → with_pairs (pairs left bs at) t ≡ r → 0 < left → m ≡ left - 1 → Some u ≡ with_pair (pair_at bs at) t → x ≡ item_end Attachments bs at
+    → with_pairs (pairs m bs x) u ≡ r
+pairs-go left m bs at x t u v h f e g =
+    ap (λ (n : ℕ). with_pairs (pairs n bs x) u) f
+    ∙ ap (λ (y : ℕ). with_pairs (pairs (left - 1) bs y) u) g
+    ∙ turn-goes (with_pair (pair_at bs at) t) (with_pairs (pairs (left - 1) bs (item_end Attachments bs at))) (pairs-turn left bs at t h) v u e
+
+-- what is left after an item ends by the last byte too
+pub items-left : (k : Section) (bs : List ℕ) (left m at : ℕ) → items_end k left bs at ≤ length bs → 0 < left → m ≡ left - 1 → (x : ℕ) → x ≡ min (item_end k bs at) (length bs + 1) → items_end k m bs x ≤ length bs
+items-left k bs left m at room some f x e = rw f (items_room k bs left at room some x e)
 
 -- ---- the whole setup: a refusal is handed through, else the next section is done
 
-on_stop : (x w : Setup) (f : Table → Setup) → x ≡ w → x.refused ≡ true → x ≡ onward w f
-on_stop x w f e h = e ∙ sym (stopped w f (rw (← e) h))
+on_stop : (w : Option Table) (f : Table → Option Table) → None ≡ w → None ≡ onward w f
+unfolding onward
+on_stop w f e = ap (λ (x : Option Table). onward x f) e
 
-on_go : (x w y : Setup) (f : Table → Setup) → x ≡ w → x.refused ≡ false → y ≡ f x.table → y ≡ onward w f
-on_go x w y f e h g = g ∙ rw e (sym (went_on w f (rw (← e) h)))
+on_go : (t : Table) (w y : Option Table) (f : Table → Option Table) → Some t ≡ w → y ≡ f t → y ≡ onward w f
+unfolding onward
+on_go t w y f e g = g ∙ ap (λ (x : Option Table). onward x f) e
 
-module _ (bs : List ℕ) (limit : ℕ) (a : Answer) (l : Setup) (el : limit ≡ field 8 bs 0) (ea : a ≡ fresh_answer limit) (es : l ≡ setup_by a) where
-  first-call : l ≡ setup_by (fresh_answer (field 8 bs 0))
-  first-call = es ∙ ap setup_by (ea ∙ ap fresh_answer el)
+module _ (bs : List ℕ) (limit : ℕ) (a : Answer) (el : limit ≡ field 8 bs 0) (ea : a ≡ fresh_answer limit) where
+  first-call : setup_by a ≡ setup_by (fresh_answer (field 8 bs 0))
+  first-call = ap setup_by (ea ∙ ap fresh_answer el)
 
-  pub limit-refused : l.refused ≡ true → l ≡ set_up (plan_of bs)
+  pub limit-refused : None ≡ setup_by a → None ≡ set_up (plan_of bs)
   unfolding set_up plan_of
-  limit-refused h = on_stop l _ _ (on_stop l _ _ (on_stop l _ _ first-call h) h) h
+  limit-refused h = on_stop _ _ (on_stop _ _ (on_stop _ _ (h ∙ first-call)))
 
-  module _ (n : ℕ) (s : Setup) (h : l.refused ≡ false) (en : n ≡ field 4 bs 8) (e : s ≡ with_spaces n l.table) where
-    second : s ≡ onward (setup_by (fresh_answer (field 8 bs 0))) (with_spaces (field 4 bs 8))
-    second = on_go l _ s (with_spaces (field 4 bs 8)) first-call h (e ∙ ap (λ (k : ℕ). with_spaces k l.table) en)
+  module _ (t : Table) (n : ℕ) (h : Some t ≡ setup_by a) (en : n ≡ field 4 bs 8) where
+    second : (s : Option Table) → s ≡ with_spaces n t → s ≡ onward (setup_by (fresh_answer (field 8 bs 0))) (with_spaces (field 4 bs 8))
+    second s e = on_go t _ s (with_spaces (field 4 bs 8)) (h ∙ first-call) (e ∙ ap (λ (k : ℕ). with_spaces k t) en)
 
-    pub spaces-refused : s.refused ≡ true → s ≡ set_up (plan_of bs)
+    pub spaces-refused : None ≡ with_spaces n t → None ≡ set_up (plan_of bs)
     unfolding set_up plan_of
-    spaces-refused g = on_stop s _ _ (on_stop s _ _ second g) g
+    spaces-refused e = on_stop _ _ (on_stop _ _ (second None e))
 
-    module _ (k : ℕ) (d : Setup) (g : s.refused ≡ false) (ek : k ≡ field 4 bs 12) (f : d ≡ with_devices (devices k bs 16) s.table) where
-      third : d ≡ onward (onward (setup_by (fresh_answer (field 8 bs 0))) (with_spaces (field 4 bs 8))) (with_devices (devices (field 4 bs 12) bs 16))
-      third = on_go s _ d (with_devices (devices (field 4 bs 12) bs 16)) second g (f ∙ ap (λ (m : ℕ). with_devices (devices m bs 16) s.table) ek)
+    module _ (u : Table) (k : ℕ) (e : Some u ≡ with_spaces n t) (ek : k ≡ field 4 bs 12) where
+      third : (d : Option Table) → d ≡ with_devices (devices k bs 16) u → d ≡ onward (onward (setup_by (fresh_answer (field 8 bs 0))) (with_spaces (field 4 bs 8))) (with_devices (devices (field 4 bs 12) bs 16))
+      third d f = on_go u _ d (with_devices (devices (field 4 bs 12) bs 16)) (second (Some u) e) (f ∙ ap (λ (m : ℕ). with_devices (devices m bs 16) u) ek)
 
-      pub devices-refused : d.refused ≡ true → d ≡ set_up (plan_of bs)
+      pub devices-refused : None ≡ with_devices (devices k bs 16) u → None ≡ set_up (plan_of bs)
       unfolding set_up plan_of
-      devices-refused i = on_stop d _ _ third i
+      devices-refused f = on_stop _ _ (third None f)
 
-      pub all_done : (x m : ℕ) (p : Setup) → d.refused ≡ false → x ≡ attachments_at bs → m ≡ field 4 bs x → p ≡ with_pairs (pairs m bs (x + 4)) d.table → p ≡ set_up (plan_of bs)
+      pub all_done : (v : Table) (x m : ℕ) (p : Option Table) → Some v ≡ with_devices (devices k bs 16) u → x ≡ attachments_at bs → m ≡ field 4 bs x → p ≡ with_pairs (pairs m bs (x + 4)) v → p ≡ set_up (plan_of bs)
       unfolding set_up plan_of
-      all_done x m p i ex em q =
-          on_go d _ p (with_pairs (pairs (field 4 bs (attachments_at bs)) bs (attachments_at bs + 4))) third i
-          (q ∙ ap (λ (y : ℕ). with_pairs (pairs y bs (x + 4)) d.table) em ∙ ap (λ (y : ℕ). with_pairs (pairs (field 4 bs y) bs (y + 4)) d.table) ex)
+      all_done v x m p f ex em q =
+          on_go v _ p (with_pairs (pairs (field 4 bs (attachments_at bs)) bs (attachments_at bs + 4))) (third (Some v) f)
+          (q ∙ ap (λ (y : ℕ). with_pairs (pairs y bs (x + 4)) v) em ∙ ap (λ (y : ℕ). with_pairs (pairs (field 4 bs y) bs (y + 4)) v) ex)

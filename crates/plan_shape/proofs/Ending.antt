@@ -20,17 +20,17 @@ module _ (k : Section) (bs : List ℕ) (left at : ℕ) {r : ℕ} (v : min (items
   pub items_cut : (x : ℕ) → 0 < left → x ≡ min (item_end k bs at) (length bs + 1) → length bs < x → x ≡ r
   items_cut x h e l = omega (arith, v, e, items_turn k bs left at h, items_from k bs (left - 1) (item_end k bs at))
 
-  pub items_on : (x : ℕ) → 0 < left → x ≡ min (item_end k bs at) (length bs + 1) → x ≤ length bs → min (items_end k (left - 1) bs x) (length bs + 1) ≡ r
-  items_on x h e l =
+  pub items_on : (x m : ℕ) → 0 < left → m ≡ left - 1 → x ≡ min (item_end k bs at) (length bs + 1) → x ≤ length bs → min (items_end k m bs x) (length bs + 1) ≡ r
+  items_on x m h f e l =
       let same : x ≡ item_end k bs at = omega arith in
-      ap (λ (y : ℕ). min (items_end k (left - 1) bs y) (length bs + 1)) same ∙ ap (λ (y : ℕ). min y (length bs + 1)) (sym (items_turn k bs left at h)) ∙ v
+      ap (λ (n : ℕ). min (items_end k n bs x) (length bs + 1)) f ∙ ap (λ (y : ℕ). min (items_end k (left - 1) bs y) (length bs + 1)) same ∙ ap (λ (y : ℕ). min y (length bs + 1)) (sym (items_turn k bs left at h)) ∙ v
 
   pub items_done : left ≤ 0 → at ≤ length bs → at ≡ r
   items_done h l = omega (arith, v, items_none k bs at left h)
 
-pub section_start : (k : Section) (bs : List ℕ) (at n x : ℕ) → n ≡ field 4 bs at → x ≡ at + 4 → min (items_end k n bs x) (length bs + 1) ≡ min (section_end k bs at) (length bs + 1)
+pub section_start : (k : Section) (bs : List ℕ) (at n m x : ℕ) → n ≡ field 4 bs at → m ≡ n → x ≡ at + 4 → min (items_end k m bs x) (length bs + 1) ≡ min (section_end k bs at) (length bs + 1)
 unfolding section_end
-section_start k bs at n x e f = rw (e, f)
+section_start k bs at n m x e g f = rw (g, e, f)
 
 pub section_cut : (k : Section) (bs : List ℕ) (at x : ℕ) → x ≡ min (at + 4) (length bs + 1) → length bs < x → x ≡ min (section_end k bs at) (length bs + 1)
 section_cut k bs at x e l = omega (arith, section_from k bs at)

@@ -17,14 +17,7 @@ fn end_after(s: &[u8], at: usize, size: usize) -> usize
     requires { length s.now ≤ 65536 }
     ensures { result ≡ min (at + size) (length s.now + 1) }
 {
-    let n = s.len();
-    if n < at {
-        return n + 1;
-    }
-    if n - at < size {
-        return n + 1;
-    }
-    at + size
+    at.saturating_add(size).min(s.len() + 1)
 }
 
 fn device_end(s: &[u8], at: usize) -> usize
@@ -72,14 +65,13 @@ pub fn section_end(s: &[u8], section: Section, at: usize) -> usize
     if s.len() < first {
         return first;
     }
-    let mut left = wire::read32(s, at);
+    let count = wire::read32(s, at);
     let mut end = first;
-    while 0 < left {
+    for _i in 0..count {
         end = item_end(s, section, end);
         if s.len() < end {
             return end;
         }
-        left -= 1;
     }
     end
 }

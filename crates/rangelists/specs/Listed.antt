@@ -1,8 +1,7 @@
 -- A list of ranges as the records hold it (document 01, "Table"): arrays of starts and lasts with a count, and what the rules ask of such a list.
 use Prim.Native.Nat.{ℕ, zero, suc, ◌+◌, ◌≤◌, ◌<◌, min}
-use Rattle.std.specs.Prelude.{◌≡◌, refl, Bool, true, false, List, [], ◌∷◌, leb, length, get_or, take, drop}
+use Rattle.std.specs.Prelude.{◌≡◌, refl, Bool, true, false, List, [], ◌∷◌, leb, length, get_or, take, drop, Option, None, Some, is_some}
 use Rattle.std.proofs.Common.{sym, ap, ◌∙◌, le_of_suc-le-suc, not-suc-le-zero}
-use Rattle.std.proofs.Math.Option.{Option, none, some}
 use native.Mathlib.Omega.{arith}
 use Rattle.std.proofs.Math.ListN.{length-take}
 use Rattle.std.proofs.Math.Seq.{get_or-take}
@@ -12,8 +11,6 @@ use Rattle.ranges.specs.declared.Range.{Range}
 use Rattle.ranges.specs.Ranges.{range, holds, share, share-address, share-false}
 use Rattle.rangelists.specs.declared.Reserved.{Reserved}
 use Rattle.rangelists.specs.declared.Allowed.{Allowed}
-use Rattle.rangelists.specs.declared.Found.{Found}
-use Rattle.rangelists.specs.declared.Found.TheVariants.{Nothing, At}
 
 -- the ranges of an array of starts and an array of lasts, place by place
 unfoldable pub places : List ℕ → List ℕ → List Range
@@ -61,54 +58,38 @@ module _ (n : ℕ) (ss ls : List ℕ) (hs : n ≤ length ss) (hl : n ≤ length 
 
 -- ---- the first place whose range shares an address with r
 
-abbrev pub found : Option ℕ → Found
-found none = Nothing
-found (some i) = At i
-
-pub from_found : (o : Option ℕ) (i : ℕ) → found o ≡ At i → o ≡ some i
-from_found none i e = let z : ◌≡◌ {A = ℕ} 0 1 = cc in absurd (omega arith)
-from_found (some n) i e = cc
-
-pub from_nothing : (o : Option ℕ) → found o ≡ Nothing → o ≡ none
-from_nothing none e = refl
-from_nothing (some n) e = let z : ◌≡◌ {A = ℕ} 0 1 = cc in absurd (omega arith)
-
 -- from a place on
-unfoldable pub touched_from : Range → ℕ → List Range → Found
-touched_from r i rs = found (seek (share r) i (drop i rs))
+unfoldable pub touched_from : Range → ℕ → List Range → Option ℕ
+touched_from r i rs = seek (share r) i (drop i rs)
 
-unfoldable pub first_touched : Range → List Range → Found
+unfoldable pub first_touched : Range → List Range → Option ℕ
 first_touched r rs = touched_from r 0 rs
 
-abbrev pub is_found : Found → Bool
-is_found Nothing = false
-is_found (At i) = true
-
 -- something is found exactly if some range shares an address with r
-pub touched_from-any : (r : Range) (i : ℕ) (rs : List Range) → is_found (touched_from r i rs) ≡ any (share r) (drop i rs)
+pub touched_from-any : (r : Range) (i : ℕ) (rs : List Range) → is_some (touched_from r i rs) ≡ any (share r) (drop i rs)
 unfolding touched_from
 touched_from-any r i rs = go (seek (share r) i (drop i rs)) (any (share r) (drop i rs)) refl refl
   where
-    go : (o : Option ℕ) (b : Bool) → seek (share r) i (drop i rs) ≡ o → any (share r) (drop i rs) ≡ b → is_found (found o) ≡ any (share r) (drop i rs)
-    go none b e f = sym (seek-none (share r) i (drop i rs) e)
-    go (some n) true e f = sym f
-    go (some n) false e f = let g = seek-any_false (share r) i (drop i rs) f in let z : ◌≡◌ {A = ℕ} 0 1 = cc in absurd (omega arith)
+    go : (o : Option ℕ) (b : Bool) → seek (share r) i (drop i rs) ≡ o → any (share r) (drop i rs) ≡ b → is_some o ≡ any (share r) (drop i rs)
+    go None b e f = sym (seek-none (share r) i (drop i rs) e)
+    go (Some n) true e f = sym f
+    go (Some n) false e f = let g = seek-any_false (share r) i (drop i rs) f in let z : ◌≡◌ {A = ℕ} 0 1 = cc in absurd (omega arith)
 
-pub first_touched-any : (r : Range) (rs : List Range) → is_found (first_touched r rs) ≡ any (share r) rs
+pub first_touched-any : (r : Range) (rs : List Range) → is_some (first_touched r rs) ≡ any (share r) rs
 unfolding first_touched
 first_touched-any r rs = touched_from-any r 0 rs
 
 -- the range at the place found shares an address with r, and none before it does
-pub first_touched-at : (r : Range) (rs : List Range) (i : ℕ) → first_touched r rs ≡ At i → share r (get_or rs i zero_range) ≡ true
+pub first_touched-at : (r : Range) (rs : List Range) (i : ℕ) → first_touched r rs ≡ Some i → share r (get_or rs i zero_range) ≡ true
 unfolding first_touched touched_from
-first_touched-at r rs i e = seek-some_at (share r) 0 rs zero_range i (from_found (seek (share r) 0 rs) i e ∙ ap some (zero_plus i))
+first_touched-at r rs i e = seek-some_at (share r) 0 rs zero_range i (e ∙ ap Some (zero_plus i))
   where
     zero_plus : (i : ℕ) → i ≡ 0 + i
     zero_plus i = omega arith
 
-pub first_touched-before : (r : Range) (rs : List Range) (i j : ℕ) → first_touched r rs ≡ At i → j < i → share r (get_or rs j zero_range) ≡ false
+pub first_touched-before : (r : Range) (rs : List Range) (i j : ℕ) → first_touched r rs ≡ Some i → j < i → share r (get_or rs j zero_range) ≡ false
 unfolding first_touched touched_from
-first_touched-before r rs i j e h = seek-some_before (share r) 0 rs zero_range i j (from_found (seek (share r) 0 rs) i e) (omega arith)
+first_touched-before r rs i j e h = seek-some_before (share r) 0 rs zero_range i j e (omega arith)
 
 -- each start is at most its last
 unfoldable pub ordered : Range → Bool

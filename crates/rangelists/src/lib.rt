@@ -2,9 +2,9 @@
 // One loop over slices serves both lengths.
 #![tactic(auto)]
 
-ghost use Rattle.std.specs.Prelude.{◌≡◌, ◌+◌, ◌≤◌, ◌<◌, min, length};
+ghost use Rattle.std.specs.Prelude.{◌≡◌, ◌+◌, ◌≤◌, ◌<◌, min, length, is_some};
 ghost use Rattle.ranges.specs.Ranges.{range};
-ghost use Rattle.rangelists.specs.Listed.{listed, reserved, allowed, is_found, touched_from, first_touched, valid, overlap};
+ghost use Rattle.rangelists.specs.Listed.{listed, reserved, allowed, touched_from, first_touched, valid, overlap};
 
 use ranges::Range;
 
@@ -24,28 +24,11 @@ pub struct Allowed {
     pub lasts: [u64; 8],
 }
 
-// A place in a list.
-#[derive(Clone, Copy)]
-pub enum Found {
-    Nothing,
-    At(usize),
-}
-
-pub fn is_found(f: Found) -> bool
-    ensures { result ≡ is_found f }
-{
-    match f {
-        Found::Nothing => false,
-        Found::At(_) => true,
-    }
-}
-
 // How many of `room` places a count names.
 pub fn used(count: u32, room: usize) -> usize
     ensures { result ≡ min count room }
 {
-    let n = count as usize;
-    if n < room { n } else { room }
+    room.min(count as usize)
 }
 
 // The first place, from `from` on, whose range shares an address with r.
@@ -55,22 +38,20 @@ pub fn touched_from<'a>(
     n: usize,
     from: usize,
     r: Range,
-) -> Found
+) -> Option<usize>
     requires { (n ≤ length starts.now) × (n ≤ length lasts.now) }
     ensures { result ≡ touched_from r from (listed n starts.now lasts.now) }
 {
-    let mut i = from;
-    while i < n {
+    for i in from..n {
         let q = Range {
             start: starts[i],
             last: lasts[i],
         };
         if ranges::shares(r, q) {
-            return Found::At(i);
+            return Some(i);
         }
-        i += 1;
     }
-    Found::Nothing
+    None
 }
 
 // Whether each start is at most its last.
@@ -78,14 +59,7 @@ pub fn all_valid<'a>(starts: &'a [u64], lasts: &'a [u64], n: usize) -> bool
     requires { (n ≤ length starts.now) × (n ≤ length lasts.now) }
     ensures { result ≡ valid (listed n starts.now lasts.now) }
 {
-    let mut i: usize = 0;
-    while i < n {
-        if lasts[i] < starts[i] {
-            return false;
-        }
-        i += 1;
-    }
-    true
+    (0..n).all(|i| starts[i] <= lasts[i])
 }
 
 // Whether some two ranges share an address.
@@ -93,54 +67,44 @@ pub fn some_overlap<'a>(starts: &'a [u64], lasts: &'a [u64], n: usize) -> bool
     requires { (n ≤ length starts.now) × (n ≤ length lasts.now) }
     ensures { result ≡ overlap (listed n starts.now lasts.now) }
 {
-    let mut i: usize = 0;
-    while i < n {
+    (0..n).any(|i| {
         let r = Range {
             start: starts[i],
             last: lasts[i],
         };
-        if is_found(touched_from(starts, lasts, n, i + 1, r)) {
-            return true;
-        }
-        i += 1;
-    }
-    false
+        touched_from(starts, lasts, n, i + 1, r).is_some()
+    })
 }
 
 // The first reserved range that shares an address with r.
-pub fn reserved_touched(l: Reserved, r: Range) -> Found
+pub fn reserved_touched(l: Reserved, r: Range) -> Option<usize>
     ensures { result ≡ first_touched r (reserved l) }
 {
-    let n = used(l.count, 4);
-    touched_from(&l.starts, &l.lasts, n, 0, r)
+    touched_from(&l.starts, &l.lasts, used(l.count, 4), 0, r)
 }
 
 // The first range of an allow list that shares an address with r.
-pub fn allowed_touched(l: Allowed, r: Range) -> Found
+pub fn allowed_touched(l: Allowed, r: Range) -> Option<usize>
     ensures { result ≡ first_touched r (allowed l) }
 {
-    let n = used(l.count, 8);
-    touched_from(&l.starts, &l.lasts, n, 0, r)
+    touched_from(&l.starts, &l.lasts, used(l.count, 8), 0, r)
 }
 
 pub fn reserved_valid(l: Reserved) -> bool
     ensures { result ≡ valid (reserved l) }
 {
-    let n = used(l.count, 4);
-    all_valid(&l.starts, &l.lasts, n)
+    all_valid(&l.starts, &l.lasts, used(l.count, 4))
 }
 
 pub fn allowed_valid(l: Allowed) -> bool
     ensures { result ≡ valid (allowed l) }
 {
-    let n = used(l.count, 8);
-    all_valid(&l.starts, &l.lasts, n)
+    all_valid(&l.starts, &l.lasts, used(l.count, 8))
 }
 
 // Whether some two ranges of an allow list share an address. A device's may.
 pub fn allowed_overlap(l: Allowed) -> bool
     ensures { result ≡ overlap (allowed l) }
 {
-    let n = used(l.count, 8);
-    some_overlap(&l.starts, &l.lasts, n)
+    some_overlap(&l.starts, &l.lasts, used(l.count, 8))
 }

@@ -6,7 +6,7 @@ ghost use Rattle.std.specs.Prelude.{◌≡◌, ◌≤◌, ◌^◌, min, max};
 ghost use Rattle.ranges.specs.Ranges.{share, inside, passes, last_of, span};
 ghost use Rattle.ranges.specs.Pages.{pages_touched};
 
-pub const U64MAX: u64 = 0xFFFF_FFFF_FFFF_FFFF;
+pub const U64MAX: u64 = u64::MAX;
 
 // From start to last, both included. A start above its last holds no address.
 #[derive(Clone, Copy)]
@@ -18,13 +18,13 @@ pub struct Range {
 pub fn higher(a: u64, b: u64) -> u64
     ensures { result ≡ max a b }
 {
-    if a < b { b } else { a }
+    a.max(b)
 }
 
 pub fn lower(a: u64, b: u64) -> u64
     ensures { result ≡ min a b }
 {
-    if a < b { a } else { b }
+    a.min(b)
 }
 
 // Whether two ranges share an address.
@@ -38,33 +38,21 @@ pub fn shares(r: Range, q: Range) -> bool
 pub fn is_inside(r: Range, q: Range) -> bool
     ensures { result ≡ inside r q }
 {
-    if r.start < q.start {
-        return false;
-    }
-    r.last <= q.last
+    q.start <= r.start && r.last <= q.last
 }
 
 // Whether start + length - 1 passes U64MAX.
 pub fn passes_max(start: u64, length: u64) -> bool
     ensures { result ≡ passes start length }
 {
-    if length == 0 {
-        return false;
-    }
-    U64MAX - start < length - 1
+    length != 0 && U64MAX - start < length - 1
 }
 
 // start + length - 1, or U64MAX where that is passed. A length of 0 counts as 1: each rule refuses it first.
 pub fn last_of(start: u64, length: u64) -> u64
     ensures { result ≡ last_of start length }
 {
-    if length == 0 {
-        return start;
-    }
-    if U64MAX - start < length - 1 {
-        return U64MAX;
-    }
-    start + (length - 1)
+    start.saturating_add(length.saturating_sub(1))
 }
 
 pub fn span_of(start: u64, length: u64) -> Range

@@ -1,15 +1,14 @@
 -- Where n bytes have no place, the longest run is shorter than they are: its length fits a word.
+use Rattle.std.specs.Prelude.{Some, None, Option}
 use Prim.Native.Nat.{ℕ, ◌≤◌}
 use mathlib.Core.Path.{◌≡◌, refl}
 use mathlib.Core.Bool.{true, false}
 use mathlib.Core.List.{List}
-use mathlib.Core.Option.{Option, none, some}
 use native.Mathlib.Omega.{arith}
 use Rattle.lists.specs.Tests.{contrary}
 use Rattle.ranges.specs.Ranges.{U64MAX}
 use Rattle.rangelists.specs.Listed.{allowed}
 use Rattle.runs.specs.declared.Run.{Run}
-use Rattle.runs.specs.declared.Run.TheVariants.{Nothing, Of}
 use Rattle.runs.specs.Longest.{told-shorter}
 use Rattle.rules_table.specs.declared.Object.{Object}
 use Rattle.rules_table.specs.declared.Mapping.{Mapping}
@@ -21,12 +20,12 @@ use Rattle.rules_reasons.specs.declared.Reason.TheVariants.{NoPlace}
 use Rattle.rules_reasons.specs.Reasons.{longest_in}
 use Rattle.reason_words.specs.Words.{Short}
 
-none_is : (o : Option ℕ) → is_none o ≡ true → o ≡ none
-none_is none w = refl
-none_is (some x) w = contrary false w refl
+none_is : (o : Option ℕ) → is_none o ≡ true → o ≡ None
+none_is None w = refl
+none_is (Some x) w = contrary false w refl
 
-pub short-run : (os : List Object) (ms : List Mapping) (s n : ℕ) → n ≤ U64MAX → is_none (automatic os ms s n) ≡ true → (run : Run) → longest_in os ms s ≡ run → Short (NoPlace run)
+pub short-run : (os : List Object) (ms : List Mapping) (s n : ℕ) → n ≤ U64MAX → is_none (automatic os ms s n) ≡ true → (run : Option Run) → longest_in os ms s ≡ run → Short (NoPlace run)
 unfolding longest_in automatic
-short-run os ms s n h w Nothing l = omega arith
-short-run os ms s n h w (Of x k) l =
-    omega (arith, h, told-shorter (alignment os s) lowest_tried (blocked_in os ms s) (allowed (object_at os s).allow) n x k (none_is (automatic os ms s n) w) l)
+short-run os ms s n h w None l = omega arith
+short-run os ms s n h w (Some x) l =
+    omega (arith, h, told-shorter (alignment os s) lowest_tried (blocked_in os ms s) (allowed (object_at os s).allow) n x.start x.more (none_is (automatic os ms s n) w) l)

@@ -1,6 +1,7 @@
 -- What each return tells: one law for each check of a place.
+use Rattle.std.specs.Prelude.{Option}
 use Prim.Native.Nat.{ℕ, ◌≤◌}
-use mathlib.Core.Path.{◌≡◌, refl, sym, ap, ◌∙◌}
+use mathlib.Core.Path.{◌≡◌, sym, ap, ◌∙◌}
 use mathlib.Core.Bool.{Bool, true, false, not}
 use mathlib.Core.List.{List, [], ◌∷◌}
 use native.Mathlib.Omega.{arith}
@@ -151,7 +152,7 @@ module _ (os : List Object) (ms : List Mapping) (t : Target) where
         is-nowhere k = by-test nowhere (λ w. w) (λ w. absurd (k (errno-found (is-even z) w)))
 
         -- none
-        pub by-nowhere : (e ≡ 0 → ⊥) → n ≤ U64MAX → (run : Run) → run ≡ longest_in os ms s → Tells (place_reason os ms t) (NoPlace run)
+        pub by-nowhere : (e ≡ 0 → ⊥) → n ≤ U64MAX → (run : Option Run) → run ≡ longest_in os ms s → Tells (place_reason os ms t) (NoPlace run)
         by-nowhere k h run l = record {
           reason = ap NoPlace l ∙ sym (even ∙ first-fires (when nowhere (NoPlace (longest_in os ms s))) [] Accepted (is-nowhere k));
           short = short-run os ms s n h (is-nowhere k) run (sym l);

@@ -25,12 +25,10 @@ const RECORDS: usize = 128;
 pub fn lowest_object(h: &[u64; 865], s: u32, r: Range) -> u32
     ensures { result ≡ object_touched (objects_in h.now) s r }
 {
-    let mut i: usize = 0;
-    while i < SLOTS {
+    for i in 0..SLOTS {
         if reserved_ranges::slot_touched(h, i, s, r) {
             return (i + 1) as u32;
         }
-        i += 1;
     }
     0
 }
@@ -40,13 +38,11 @@ pub fn lowest_record(ws: &[[u64; 5]], s: u32, r: Range) -> u32
     requires { length ws.now ≡ 128 }
     ensures { result ≡ record_touched (records_of ws.now) s r }
 {
-    let mut i: usize = 0;
-    while i < RECORDS {
+    for i in 0..RECORDS {
         let m = layout_mappings::record(ws, i);
         if table::is_touched(m, s, r) {
             return (i + 1) as u32;
         }
-        i += 1;
     }
     0
 }
@@ -89,16 +85,14 @@ fn automatic_reason<'a>(
     ensures { a ≡ alignment (objects_in h.now) t.space → bit 0 t.flags ≡ false → Tells (place_reason (objects_in h.now) (records_of ws.now) t) result }
 {
     let o = layout_objects::object_of(h, t.space);
-    let allow = o.allow;
-    let p = landing::place_automatic(h, ws, ix, listed, a, allow, t);
+    let p = landing::place_automatic(h, ws, ix, listed, a, o.allow, t);
     if p.errno == 22 {
         return Reason::LengthMisaligned;
     }
     if p.errno == 0 {
         return Reason::Accepted;
     }
-    let run = longest_run::longest(h, ws, t.space, a, allow);
-    Reason::NoPlace(run)
+    Reason::NoPlace(longest_run::longest(h, ws, t.space, a, o.allow))
 }
 
 // What is in the way of a target in a space of alignment a.

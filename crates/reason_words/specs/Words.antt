@@ -1,9 +1,8 @@
 -- A reason by what it tells: its number and its run, which with code and errno are its words.
-use Rattle.std.specs.Prelude.{ℕ, ◌≤◌, ◌<◌, ◌≡◌, refl, List, [], ◌∷◌, length, get_or, set}
+use Rattle.std.specs.Prelude.{ℕ, ◌≤◌, ◌<◌, ◌≡◌, refl, List, [], ◌∷◌, length, get_or, set, Option, Some, None}
 use Rattle.std.proofs.Common.{sym, ap, ◌∙◌, arith}
 use Rattle.ranges.specs.Ranges.{U64MAX}
 use Rattle.runs.specs.declared.Run.{Run}
-use Rattle.runs.specs.declared.Run.TheVariants.{Nothing, Of}
 use Rattle.rules_reasons.specs.declared.Reason.{Reason}
 use Rattle.rules_reasons.specs.declared.Reason.TheVariants.{Accepted, NoSizeField, SizeTooSmall, SizePastBytes, TailNotZero, Flags, NoRight, WrongLength, MemoryPasses, SourcePasses, AddressPasses, NoSpace, NoSourceSpace, NoSource, NotWriteable, Misaligned, TouchesReserved, TouchesMapping, LengthMisaligned, NoPlace, NoRecord, OverLimit}
 use Rattle.rules_reasons.specs.Reasons.{reason_errno}
@@ -36,37 +35,37 @@ number_of NoRecord = 0
 number_of OverLimit = 0
 
 -- the run that is told
-abbrev pub run_of : Reason → Run
-run_of Accepted = Nothing
-run_of NoSizeField = Nothing
-run_of SizeTooSmall = Nothing
-run_of SizePastBytes = Nothing
-run_of TailNotZero = Nothing
-run_of Flags = Nothing
-run_of NoRight = Nothing
-run_of WrongLength = Nothing
-run_of MemoryPasses = Nothing
-run_of SourcePasses = Nothing
-run_of AddressPasses = Nothing
-run_of NoSpace = Nothing
-run_of NoSourceSpace = Nothing
-run_of NoSource = Nothing
-run_of NotWriteable = Nothing
-run_of Misaligned = Nothing
-run_of (TouchesReserved id) = Nothing
-run_of (TouchesMapping k) = Nothing
-run_of LengthMisaligned = Nothing
+abbrev pub run_of : Reason → Option Run
+run_of Accepted = None
+run_of NoSizeField = None
+run_of SizeTooSmall = None
+run_of SizePastBytes = None
+run_of TailNotZero = None
+run_of Flags = None
+run_of NoRight = None
+run_of WrongLength = None
+run_of MemoryPasses = None
+run_of SourcePasses = None
+run_of AddressPasses = None
+run_of NoSpace = None
+run_of NoSourceSpace = None
+run_of NoSource = None
+run_of NotWriteable = None
+run_of Misaligned = None
+run_of (TouchesReserved id) = None
+run_of (TouchesMapping k) = None
+run_of LengthMisaligned = None
 run_of (NoPlace run) = run
-run_of NoRecord = Nothing
-run_of OverLimit = Nothing
+run_of NoRecord = None
+run_of OverLimit = None
 
 abbrev pub parts_of : Reason → Parts
 parts_of r = record { code = reason_code r; errno = reason_errno r; number = number_of r; run = run_of r }
 
 -- a run that is not all 2^64 addresses: its length fits a word
-abbrev pub Fits : Run → Type 0
-Fits Nothing = 0 ≤ U64MAX
-Fits (Of x k) = k < U64MAX
+abbrev pub Fits : Option Run → Type 0
+Fits None = 0 ≤ U64MAX
+Fits (Some x) = x.more < U64MAX
 
 abbrev pub Short : Reason → Type 0
 Short r = Fits (run_of r)
@@ -134,9 +133,9 @@ pub written : (r : Reason) (p : Parts) (ws : List ℕ) (x n : ℕ) → p ≡ par
     → set (set (set (set (set ws 0 p.code) 1 p.errno) 2 p.number) 3 x) 4 n ≡ reason_words r
 written r p ws x n e l ex en = five ws l p.code p.errno p.number x n ∙ rw (ex, en, e) (ap (λ (q : List ℕ). reason_code r ∷ reason_errno r ∷ q) (ap (λ (q : List ℕ). number_of r ∷ q) (both (run_of r)) ∙ sym (place-words r)))
   where
-    both : (q : Run) → get_or (run_words q) 0 0 ∷ get_or (run_words q) 1 0 ∷ [] ≡ run_words q
-    both Nothing = refl
-    both (Of x k) = refl
+    both : (q : Option Run) → get_or (run_words q) 0 0 ∷ get_or (run_words q) 1 0 ∷ [] ≡ run_words q
+    both None = refl
+    both (Some x) = refl
 
     five : (ws : List ℕ) → length ws ≡ 5 → (a b c d e : ℕ) → set (set (set (set (set ws 0 a) 1 b) 2 c) 3 d) 4 e ≡ a ∷ b ∷ c ∷ d ∷ e ∷ []
     five [] l a b c d e = absurd (omega (arith, l))

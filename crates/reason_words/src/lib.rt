@@ -1,8 +1,7 @@
 // A reason in five words (L1): its code, its errno, the object or the mapping record that it names, and start and length of its run.
 #![tactic(auto)]
 
-ghost use Rattle.std.specs.Prelude.{◌≡◌, eqb, length, get_or};
-ghost use Rattle.runs.specs.declared.Run.TheVariants.{Nothing};
+ghost use Rattle.std.specs.Prelude.{◌≡◌, eqb, length, get_or, None};
 ghost use Rattle.rules_reasons.specs.Explain.{reason_code, run_words, reason_words};
 ghost use Rattle.reason_words.specs.Words.{parts_of, Fits, Short};
 
@@ -15,10 +14,10 @@ pub struct Parts {
     pub code: u8,
     pub errno: u8,
     pub number: u32,
-    pub run: Run,
+    pub run: Option<Run>,
 }
 
-fn parts_of(code: u8, errno: u8, number: u32, run: Run) -> Parts
+fn parts_of(code: u8, errno: u8, number: u32, run: Option<Run>) -> Parts
     ensures { result ≡ record { code = code; errno = errno; number = number; run = run } }
 {
     Parts {
@@ -31,9 +30,9 @@ fn parts_of(code: u8, errno: u8, number: u32, run: Run) -> Parts
 
 // A reason that names nothing.
 fn plain(code: u8, errno: u8) -> Parts
-    ensures { result ≡ record { code = code; errno = errno; number = 0; run = Nothing } }
+    ensures { result ≡ record { code = code; errno = errno; number = 0; run = None } }
 {
-    parts_of(code, errno, 0, Run::Nothing)
+    parts_of(code, errno, 0, None)
 }
 
 pub fn parts_in(r: Reason) -> Parts
@@ -56,8 +55,8 @@ pub fn parts_in(r: Reason) -> Parts
         Reason::NoSource => plain(13, 2),
         Reason::NotWriteable => plain(14, 1),
         Reason::Misaligned => plain(15, 22),
-        Reason::TouchesReserved(id) => parts_of(16, 22, id, Run::Nothing),
-        Reason::TouchesMapping(k) => parts_of(17, 17, k, Run::Nothing),
+        Reason::TouchesReserved(id) => parts_of(16, 22, id, None),
+        Reason::TouchesMapping(k) => parts_of(17, 17, k, None),
         Reason::LengthMisaligned => plain(18, 22),
         Reason::NoPlace(run) => parts_of(19, 28, 0, run),
         Reason::NoRecord => plain(20, 12),
@@ -69,28 +68,27 @@ pub fn parts_in(r: Reason) -> Parts
 pub fn is_accepted(r: Reason) -> bool
     ensures { result ≡ eqb (reason_code r) 0 }
 {
-    let p = parts_in(r);
-    p.code == 0
+    matches!(r, Reason::Accepted)
 }
 
 // The start of a run, 0 where there is none.
-fn run_start(q: Run) -> u64
+fn run_start(q: Option<Run>) -> u64
     ensures { result ≡ get_or (run_words q) 0 0 }
 {
     match q {
-        Run::Nothing => 0,
-        Run::Of(x, _) => x,
+        None => 0,
+        Some(run) => run.start,
     }
 }
 
 // Its length, 0 where there is none.
-fn run_length(q: Run) -> u64
+fn run_length(q: Option<Run>) -> u64
     requires { Fits q }
     ensures { result ≡ get_or (run_words q) 1 0 }
 {
     match q {
-        Run::Nothing => 0,
-        Run::Of(_, k) => k + 1,
+        None => 0,
+        Some(run) => run.more + 1,
     }
 }
 
@@ -100,10 +98,9 @@ pub fn write(r: Reason, words: &mut [u64])
     ensures { words.new ≡ reason_words r }
 {
     let p = parts_in(r);
-    let run = p.run;
-    words[0] = p.code as u64;
-    words[1] = p.errno as u64;
-    words[2] = p.number as u64;
-    words[3] = run_start(run);
-    words[4] = run_length(run);
+    words[0] = u64::from(p.code);
+    words[1] = u64::from(p.errno);
+    words[2] = u64::from(p.number);
+    words[3] = run_start(p.run);
+    words[4] = run_length(p.run);
 }

@@ -1,9 +1,8 @@
 -- The backings of a list of records: when its records agree, and what one more record adds to the charge.
-use Rattle.std.specs.Prelude.{ℕ, ◌+◌, ◌-◌, ◌≤◌, ◌<◌, ◌≡◌, refl, Bool, true, false, not, ◌&&◌, cond, leb, eqb, length, get_or}
+use Rattle.std.specs.Prelude.{ℕ, ◌+◌, ◌-◌, ◌≤◌, ◌<◌, ◌≡◌, refl, Bool, true, false, not, ◌&&◌, cond, leb, eqb, length, get_or, Some}
 use Rattle.std.proofs.Common.{sym, ◌∙◌, arith, eqb-true, eq-eqb, ne_eqb, leb-true, leb-false}
 use Rattle.std.proofs.Math.Path.{ap}
 use mathlib.Core.List.{List, [], ◌∷◌, ◌++◌}
-use Rattle.std.proofs.Math.Option.{some}
 use Rattle.std.proofs.lemmas.Bool.{eqb-false, not-true, not-false}
 use Rattle.lists.specs.Tests.{by-test, contrary, and_left, and_right, and_not_right, only_if, only_if-false}
 use Rattle.lists.specs.Search.{any, all, find, seek, any-slot, any_none, all-at, find-cons_true, find-cons_false, find-any_true, find-any_false, seek-some_lt, seek-some_at, seek-some_before}
@@ -68,12 +67,12 @@ module _ (ms : List Mapping) (num : all numbered ms ≡ true) where
       numbered-backed (get_or ms k zero_mapping) (all-at numbered ms zero_mapping num k h)
       (omega (arith, e, (numbered-used (get_or ms j zero_mapping) (all-at numbered ms zero_mapping num j l) u).0))
 
-  module _ (b k : ℕ) (s : seek (backs b) 0 ms ≡ some k) where
+  module _ (b k : ℕ) (s : seek (backs b) 0 ms ≡ Some k) where
     first-place : k < length ms
     first-place = omega (arith, (seek-some_lt (backs b) 0 ms k s).1)
 
     first-backing : (get_or ms k zero_mapping).backing ≡ b
-    first-backing = backs-is (get_or ms k zero_mapping) b (seek-some_at (backs b) 0 ms zero_mapping k (let z : k ≡ 0 + k = omega arith in s ∙ ap some z))
+    first-backing = backs-is (get_or ms k zero_mapping) b (seek-some_at (backs b) 0 ms zero_mapping k (let z : k ≡ 0 + k = omega arith in s ∙ ap Some z))
 
     first-least : (j : ℕ) → (get_or ms j zero_mapping).backing ≡ b → k ≤ j
     first-least j e =
@@ -87,7 +86,7 @@ module _ (ms : List Mapping) (num : all numbered ms ≡ true) where
         differ-false (get_or ms k zero_mapping) m d (first-used k j first-place h (first-backing ∙ sym e) u) v (first-backing ∙ sym f)
 
   -- one more record differs from none, where it does not differ from the first of its backing
-  pub agree-first : (m : Mapping) (k : ℕ) → clashes differ ms ≡ false → seek (backs m.backing) 0 ms ≡ some k → differ (get_or ms k zero_mapping) m ≡ false → any (λ y. differ y m) ms ≡ false
+  pub agree-first : (m : Mapping) (k : ℕ) → clashes differ ms ≡ false → seek (backs m.backing) 0 ms ≡ Some k → differ (get_or ms k zero_mapping) m ≡ false → any (λ y. differ y m) ms ≡ false
   agree-first m k ok s d =
       by-test (any (λ y. differ y m) ms)
       (λ t. let w = any-slot (λ y. differ y m) ms zero_mapping t in none w.0 w.1 w.2 (differ-parts (get_or ms w.0 zero_mapping) m w.2))

@@ -13,27 +13,15 @@ pub fn is_touched(space: u32, first: u64, last: u64, n: Mapping) -> bool
     requires { first ≤ last }
     ensures { result ≡ touches space (range first last) n }
 {
-    if n.space != space {
+    if n.space != space || last < n.address {
         return false;
     }
-    if last < n.address {
-        return false;
-    }
-    if first <= n.address {
-        return true;
-    }
-    first - n.address < n.length
+    first <= n.address || first - n.address < n.length
 }
 
 pub fn differs(m: Mapping, n: Mapping) -> bool
     ensures { result ≡ differ m n }
 {
-    let same = checks::both(
-        m.memory == n.memory,
-        checks::both(m.length == n.length, m.founder == n.founder),
-    );
-    checks::both(
-        m.space != 0,
-        checks::both(n.space != 0, checks::both(m.backing == n.backing, !same)),
-    )
+    let same = (m.memory == n.memory) & (m.length == n.length) & (m.founder == n.founder);
+    (m.space != 0) & (n.space != 0) & (m.backing == n.backing) & !same
 }

@@ -1,22 +1,18 @@
 -- What one slot reserves, and a pass that stands at a slot.
+use Rattle.std.specs.Prelude.{Option, None, Some, is_some}
 use Prim.Native.Nat.{ℕ, ◌+◌, ◌*◌, ◌≤◌, ◌<◌, min}
 use mathlib.Core.Path.{◌≡◌, refl, sym, ap, ◌∙◌, subst}
-use mathlib.Core.Bool.{Bool, true, false, not}
+use mathlib.Core.Bool.{Bool, true, false}
 use mathlib.Core.List.{List, []}
 use native.Mathlib.Omega.{arith}
 use lib.ListN.{length, get_or, take, drop, length-take}
-use borrow.Author.Tests.{not-true, not-false}
 use Rattle.lists.specs.Search.{any, any-nil}
 use Rattle.ranges.specs.declared.Range.{Range}
 use Rattle.ranges.specs.Ranges.{share}
-use Rattle.alignment.specs.declared.Spot.{Spot}
-use Rattle.alignment.specs.declared.Spot.TheVariants.{Nowhere, At}
 use Rattle.rangelists.specs.declared.Reserved.{Reserved}
-use Rattle.rangelists.specs.declared.Found.{Found}
-use Rattle.rangelists.specs.Listed.{reserved, listed, places, is_found, first_touched, first_touched-any}
+use Rattle.rangelists.specs.Listed.{reserved, listed, places, first_touched, first_touched-any}
 use Rattle.placement.specs.Jumps.{Swept, Never}
 use Rattle.placement.specs.Passes.{swept-nil, swept-then, never-left, swept-most}
-use Rattle.rules_table.specs.declared.Kind.{Kind}
 use Rattle.rules_table.specs.declared.Object.{Object}
 use Rattle.rules_table.specs.Records.{zero_object, no_reserved, attached_to}
 use Rattle.rules_table.specs.Spaces.{reserved_for, reserved_of}
@@ -24,39 +20,30 @@ use Rattle.reserved_ranges.specs.Gathered.{reserved_of-next, reserved_of-all, re
 
 -- ---- one slot
 
-module _ (s : ℕ) (o : Object) (l : Reserved) (k : Kind) (b : Bool) (ek : k ≡ o.kind) (eb : b ≡ attached_to s k) where
-  attached-is : (c : Bool) → b ≡ c → attached_to s o.kind ≡ c
-  attached-is c e = ap (attached_to s) (sym ek) ∙ sym eb ∙ e
-
-  pub reserving_none : not b ≡ true → l ≡ no_reserved → reserved l ≡ reserved_for s o
-  unfolding reserved_for reserved listed places
-  reserving_none h e = rw (attached-is false (not-true b h), e)
-
-  pub reserving_list : not b ≡ false → l ≡ o.reserved → reserved l ≡ reserved_for s o
-  unfolding reserved_for
-  reserving_list h e = rw (attached-is true (not-false b h), e)
-
--- the same where no list is made
 module _ (s : ℕ) (o : Object) (b : Bool) (eb : b ≡ attached_to s o.kind) where
-  silent : not b ≡ true → reserved_for s o ≡ []
+  silent : b ≡ false → reserved_for s o ≡ []
   unfolding reserved_for
-  silent h = rw (sym eb ∙ not-true b h)
+  silent h = rw (sym eb ∙ h)
 
-  pub reserving_made : not b ≡ false → (l : Reserved) → l ≡ o.reserved → reserved l ≡ reserved_for s o
+  pub reserving_none : b ≡ false → (l : Reserved) → l ≡ no_reserved → reserved l ≡ reserved_for s o
+  unfolding reserved_for reserved listed places
+  reserving_none h l e = rw (sym eb ∙ h, e)
+
+  pub reserving_made : b ≡ true → (l : Reserved) → l ≡ o.reserved → reserved l ≡ reserved_for s o
   unfolding reserved_for
-  reserving_made h l e = rw (sym eb ∙ not-false b h, e)
+  reserving_made h l e = rw (sym eb ∙ h, e)
 
-  pub none_touches : not b ≡ true → (r : Range) → false ≡ any (share r) (reserved_for s o)
+  pub none_touches : b ≡ false → (r : Range) → false ≡ any (share r) (reserved_for s o)
   none_touches h r = sym (ap (any (share r)) (silent h) ∙ any-nil (share r))
 
-  pub none_swept : not b ≡ true → (a n x : ℕ) → x < 0x1_0000_0000_0000_0000 → Swept a n (reserved_for s o) x (At x) 0
-  none_swept h a n x k = subst (λ (qs : List Range). Swept a n qs x (At x) 0) (sym (silent h)) (swept-nil a n x k)
+  pub none_swept : b ≡ false → (a n x : ℕ) → x < 0x1_0000_0000_0000_0000 → Swept a n (reserved_for s o) x (Some x) 0
+  none_swept h a n x k = subst (λ (qs : List Range). Swept a n qs x (Some x) 0) (sym (silent h)) (swept-nil a n x k)
 
-pub slot-touches : (r : Range) (l : Reserved) (rs : List Range) (f : Found) (b : Bool) → reserved l ≡ rs → f ≡ first_touched r (reserved l)
-    → b ≡ is_found f → b ≡ any (share r) rs
-slot-touches r l rs f b e g h = h ∙ ap is_found g ∙ first_touched-any r (reserved l) ∙ ap (any (share r)) e
+pub slot-touches : (r : Range) (l : Reserved) (rs : List Range) (f : Option ℕ) (b : Bool) → reserved l ≡ rs → f ≡ first_touched r (reserved l)
+    → b ≡ is_some f → b ≡ any (share r) rs
+slot-touches r l rs f b e g h = h ∙ ap is_some g ∙ first_touched-any r (reserved l) ∙ ap (any (share r)) e
 
-pub slot-swept : (a n : ℕ) (l : Reserved) (rs : List Range) (m x : ℕ) (sp : Spot) (j : ℕ) → reserved l ≡ rs → m ≡ min l.count 4
+pub slot-swept : (a n : ℕ) (l : Reserved) (rs : List Range) (m x : ℕ) (sp : Option ℕ) (j : ℕ) → reserved l ≡ rs → m ≡ min l.count 4
     → Swept a n (listed m l.starts l.lasts) x sp j
     → Swept a n rs x sp j
 unfolding reserved
@@ -65,7 +52,7 @@ slot-swept a n l rs m x sp j e f p = subst (λ (qs : List Range). Swept a n qs x
 -- ---- a pass over all slots, at slot i
 
 pub record Standing (a n : ℕ) (os : List Object) (s from x jumps i : ℕ) : Type 0 where
-  pub swept : Swept a n (reserved_of (take i os) s) from (At x) jumps
+  pub swept : Swept a n (reserved_of (take i os) s) from (Some x) jumps
   pub upto : i ≤ length os
 
 pub standing_start : (a n : ℕ) (os : List Object) (s from : ℕ) → from < 0x1_0000_0000_0000_0000 → Standing a n os s from from 0 0
@@ -73,7 +60,7 @@ unfolding reserved_of
 standing_start a n os s from h = record { swept = swept-nil a n from h; upto = omega arith }
 
 module _ (a n : ℕ) (os : List Object) (s from x jumps i : ℕ) (v : Standing a n os s from x jumps i) where
-  module _ (h : i < length os) (sp : Spot) (j : ℕ) (p : Swept a n (reserved_for s (get_or os i zero_object)) x sp j) where
+  module _ (h : i < length os) (sp : Option ℕ) (j : ℕ) (p : Swept a n (reserved_for s (get_or os i zero_object)) x sp j) where
     next : Swept a n (reserved_of (take (i + 1) os) s) from sp (jumps + j)
     next =
         subst (λ (qs : List Range). Swept a n qs from sp (jumps + j)) (sym (reserved_of-next os i s h))
@@ -83,7 +70,7 @@ module _ (a n : ℕ) (os : List Object) (s from x jumps i : ℕ) (v : Standing a
     standing_sum =
         omega (
           arith,
-          swept-most a n (reserved_of (take i os) s) from (At x) jumps v.swept,
+          swept-most a n (reserved_of (take i os) s) from (Some x) jumps v.swept,
           reserved_of-most (take i os) s,
           length-take i os,
           swept-most a n (reserved_for s (get_or os i zero_object)) x sp j p,
@@ -91,14 +78,14 @@ module _ (a n : ℕ) (os : List Object) (s from x jumps i : ℕ) (v : Standing a
           h,
         )
 
-    pub standing_never : sp ≡ Nowhere → Swept a n (reserved_of os s) from Nowhere (jumps + j)
+    pub standing_never : sp ≡ None → Swept a n (reserved_of os s) from None (jumps + j)
     standing_never e =
         subst (λ (qs : List Range). Never a n qs from (jumps + j)) (sym (reserved_of-split os (i + 1) s))
         (never-left a n (reserved_of (take (i + 1) os) s) (reserved_of (drop (i + 1) os) s) from (jumps + j)
-        (subst (λ (r : Spot). Swept a n (reserved_of (take (i + 1) os) s) from r (jumps + j)) e next))
+        (subst (λ (r : Option ℕ). Swept a n (reserved_of (take (i + 1) os) s) from r (jumps + j)) e next))
 
-    pub standing_on : (y : ℕ) → sp ≡ At y → Standing a n os s from y (jumps + j) (i + 1)
-    standing_on y e = record { swept = subst (λ (r : Spot). Swept a n (reserved_of (take (i + 1) os) s) from r (jumps + j)) e next; upto = omega (arith, h) }
+    pub standing_on : (y : ℕ) → sp ≡ Some y → Standing a n os s from y (jumps + j) (i + 1)
+    standing_on y e = record { swept = subst (λ (r : Option ℕ). Swept a n (reserved_of (take (i + 1) os) s) from r (jumps + j)) e next; upto = omega (arith, h) }
 
-  pub standing_end : length os ≤ i → Swept a n (reserved_of os s) from (At x) jumps
-  standing_end h = subst (λ (qs : List Range). Swept a n qs from (At x) jumps) (reserved_of-all os i s h) v.swept
+  pub standing_end : length os ≤ i → Swept a n (reserved_of os s) from (Some x) jumps
+  standing_end h = subst (λ (qs : List Range). Swept a n qs from (Some x) jumps) (reserved_of-all os i s h) v.swept

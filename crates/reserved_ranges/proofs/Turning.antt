@@ -1,4 +1,5 @@
 -- The two searches over all slots, at slot i: what is left answers for the whole.
+use Rattle.std.specs.Prelude.{Option, None, is_some}
 use Prim.Native.Nat.{ℕ, ◌+◌, ◌≤◌, ◌<◌, min}
 use mathlib.Core.Path.{◌≡◌, sym, ap, ◌∙◌}
 use mathlib.Core.Bool.{Bool, true, false}
@@ -9,14 +10,12 @@ use Rattle.ranges.specs.declared.Range.{Range}
 use Rattle.ranges.specs.Ranges.{U64MAX}
 use Rattle.rangelists.specs.declared.Reserved.{Reserved}
 use Rattle.rangelists.specs.Listed.{reserved, listed}
-use Rattle.freeranges.specs.declared.Cover.{Cover}
-use Rattle.freeranges.specs.declared.Cover.TheVariants.{Clear}
 use Rattle.freeranges.specs.Scan.{cover_of, run_end, run_end-nil, run_end-most}
 use Rattle.rules_table.specs.declared.Object.{Object}
 use Rattle.rules_table.specs.Records.{zero_object}
 use Rattle.rules_table.specs.Spaces.{reserved_for, reserved_of}
 use Rattle.reserved_ranges.specs.Gathered.{reserved_of-left, reserved_of-done}
-use Rattle.reserved_ranges.specs.Covers.{is_upto, cover_first, cover_second, cover_nil, run_end-append}
+use Rattle.reserved_ranges.specs.Covers.{cover_first, cover_second, cover_nil, run_end-append}
 
 -- the list of a slot, place by place
 pub slot-listed : (l : Reserved) (rs : List Range) (n : ℕ) → reserved l ≡ rs → n ≡ min l.count 4 → listed n l.starts l.lasts ≡ rs
@@ -24,20 +23,20 @@ unfolding reserved
 slot-listed l rs n e f = rw f e
 
 module _ (os : List Object) (s i x : ℕ) where
-  module _ {k : Cover} (v : cover_of (reserved_of (drop i os) s) x ≡ k) (c : Cover) (e : c ≡ cover_of (reserved_for s (get_or os i zero_object)) x) where
-    here : (b t : Bool) → b ≡ is_upto c → b ≡ t → is_upto (cover_of (reserved_for s (get_or os i zero_object)) x) ≡ t
-    here b t f g = ap (λ (d : Cover). is_upto d) (sym e) ∙ sym f ∙ g
+  module _ {k : Option ℕ} (v : cover_of (reserved_of (drop i os) s) x ≡ k) (c : Option ℕ) (e : c ≡ cover_of (reserved_for s (get_or os i zero_object)) x) where
+    here : (b t : Bool) → b ≡ is_some c → b ≡ t → is_some (cover_of (reserved_for s (get_or os i zero_object)) x) ≡ t
+    here b t f g = ap (λ (d : Option ℕ). is_some d) (sym e) ∙ sym f ∙ g
 
     turn : i < length os → cover_of (reserved_for s (get_or os i zero_object) ++ reserved_of (drop (i + 1) os) s) x ≡ k
     turn h = sym (ap (λ (rs : List Range). cover_of rs x) (reserved_of-left os i s h)) ∙ v
 
-    pub slot-covers : (b : Bool) → i < length os → b ≡ is_upto c → b ≡ true → c ≡ k
+    pub slot-covers : (b : Bool) → i < length os → b ≡ is_some c → b ≡ true → c ≡ k
     slot-covers b h f g = e ∙ sym (cover_first (reserved_for s (get_or os i zero_object)) (reserved_of (drop (i + 1) os) s) x (here b true f g)) ∙ turn h
 
-    pub slot-clears : (b : Bool) → i < length os → b ≡ is_upto c → b ≡ false → cover_of (reserved_of (drop (i + 1) os) s) x ≡ k
+    pub slot-clears : (b : Bool) → i < length os → b ≡ is_some c → b ≡ false → cover_of (reserved_of (drop (i + 1) os) s) x ≡ k
     slot-clears b h f g = sym (cover_second (reserved_for s (get_or os i zero_object)) (reserved_of (drop (i + 1) os) s) x (here b false f g)) ∙ turn h
 
-  pub all-clear : {k : Cover} → cover_of (reserved_of (drop i os) s) x ≡ k → length os ≤ i → Clear ≡ k
+  pub all-clear : {k : Option ℕ} → cover_of (reserved_of (drop i os) s) x ≡ k → length os ≤ i → None ≡ k
   all-clear v h = sym (ap (λ (rs : List Range). cover_of rs x) (reserved_of-done os i s h) ∙ cover_nil x) ∙ v
 
   module _ (acc : ℕ) {e : ℕ} (v : min acc (run_end (reserved_of (drop i os) s) x) ≡ e) where

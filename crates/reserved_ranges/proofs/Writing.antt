@@ -1,4 +1,5 @@
 -- Writing the ranges one after another and counting them: what is left to do from x on.
+use Rattle.std.specs.Prelude.{Option, None, Some}
 use Prim.Native.Nat.{ℕ, zero, suc, ◌+◌, ◌-◌, ◌≤◌, ◌<◌}
 use mathlib.Core.Path.{◌≡◌, refl, sym, ap, ◌∙◌}
 use mathlib.Core.List.{List, [], ◌∷◌}
@@ -14,8 +15,6 @@ use Rattle.freeranges.specs.From.{First}
 use Rattle.freeranges.proofs.From.{none-past, free-first}
 use Rattle.freeranges.proofs.Fewest.{free-length}
 use Rattle.freeranges.specs.Scan.{gap_of, free-nothing}
-use Rattle.freeranges.specs.declared.Gap.{Gap}
-use Rattle.freeranges.specs.declared.Gap.TheVariants.{Nothing, At}
 use Rattle.freeranges.specs.Written.{put_range, put_ranges, length-put_at}
 
 -- ---- one range
@@ -64,13 +63,13 @@ done rs room k x bytes bytes₀ w e = (
 )
 
 -- the next free range is g
-module _ (rs : List Range) (room k x : ℕ) (bytes bytes₀ : List ℕ) (w : Work rs room k x bytes bytes₀) (g : Gap) (v : g ≡ gap_of (free_from x rs)) where
+module _ (rs : List Range) (room k x : ℕ) (bytes bytes₀ : List ℕ) (w : Work rs room k x bytes bytes₀) (g : Option Range) (v : g ≡ gap_of (free_from x rs)) where
   -- there is none
-  pub work_none : g ≡ Nothing → Done rs room k bytes bytes₀
+  pub work_none : g ≡ None → Done rs room k bytes bytes₀
   work_none q = done rs room k x bytes bytes₀ w (free-nothing rs x (sym q ∙ v))
 
   -- it is s to l
-  module _ (s l : ℕ) (q : g ≡ At s l) where
+  module _ (s l : ℕ) (q : g ≡ Some (range s l)) where
     next : First rs x s l
     next = free-first rs x s l (sym q ∙ v)
 

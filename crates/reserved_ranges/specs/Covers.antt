@@ -1,47 +1,39 @@
 -- What holds an address, and where a run of free ones ends, in one list of ranges and then another.
-use Rattle.std.specs.Prelude.{ℕ, min, ◌≡◌, Bool, List, [], ◌∷◌, ◌++◌}
+use Rattle.std.specs.Prelude.{ℕ, min, ◌≡◌, Bool, List, [], ◌∷◌, ◌++◌, Option, None, Some, is_some}
 use Rattle.std.proofs.Math.Path.{refl, sym, ap}
 use Rattle.std.proofs.Common.{◌∙◌, arith}
 use Rattle.std.proofs.Math.Bool.{true, false}
-use Rattle.std.proofs.Math.Option.{Option, none, some}
 use Rattle.lists.specs.Tests.{contrary}
 use Rattle.lists.specs.Search.{find, find_none}
 use Rattle.lists.specs.Ends.{find-append_some, find-append_none}
 use Rattle.ranges.specs.declared.Range.{Range}
 use Rattle.ranges.specs.Ranges.{holds}
-use Rattle.freeranges.specs.declared.Cover.{Cover}
-use Rattle.freeranges.specs.declared.Cover.TheVariants.{Clear, Upto}
 use Rattle.freeranges.specs.Scan.{upto, cover_of, run_end, run_end-nil, run_end-cons, run_end-most}
 
--- something holds the address
-abbrev pub is_upto : Cover → Bool
-is_upto Clear = false
-is_upto (Upto l) = true
-
-pub clear-is : (c : Cover) → is_upto c ≡ false → c ≡ Clear
-clear-is Clear e = refl
-clear-is (Upto l) e = contrary true refl e
+pub clear-is : (c : Option ℕ) → is_some c ≡ false → c ≡ None
+clear-is None e = refl
+clear-is (Some l) e = contrary true refl e
 
 module _ (xs ys : List Range) (x : ℕ) where
-  pub cover_first : is_upto (cover_of xs x) ≡ true → cover_of (xs ++ ys) x ≡ cover_of xs x
+  pub cover_first : is_some (cover_of xs x) ≡ true → cover_of (xs ++ ys) x ≡ cover_of xs x
   unfolding cover_of
   cover_first e = go (find (λ r. holds r x) xs) refl e
     where
-      go : (o : Option Range) → find (λ r. holds r x) xs ≡ o → is_upto (upto (find (λ r. holds r x) xs)) ≡ true
+      go : (o : Option Range) → find (λ r. holds r x) xs ≡ o → is_some (upto (find (λ r. holds r x) xs)) ≡ true
           → upto (find (λ r. holds r x) (xs ++ ys)) ≡ upto (find (λ r. holds r x) xs)
-      go none q w = contrary (is_upto (upto (find (λ r. holds r x) xs))) w (ap (λ (o : Option Range). is_upto (upto o)) q)
-      go (some r) q w = ap upto (find-append_some (λ r. holds r x) xs ys r q ∙ sym q)
+      go None q w = contrary (is_some (upto (find (λ r. holds r x) xs))) w (ap (λ (o : Option Range). is_some (upto o)) q)
+      go (Some r) q w = ap upto (find-append_some (λ r. holds r x) xs ys r q ∙ sym q)
 
-  pub cover_second : is_upto (cover_of xs x) ≡ false → cover_of (xs ++ ys) x ≡ cover_of ys x
+  pub cover_second : is_some (cover_of xs x) ≡ false → cover_of (xs ++ ys) x ≡ cover_of ys x
   unfolding cover_of
   cover_second e = go (find (λ r. holds r x) xs) refl e
     where
-      go : (o : Option Range) → find (λ r. holds r x) xs ≡ o → is_upto (upto (find (λ r. holds r x) xs)) ≡ false
+      go : (o : Option Range) → find (λ r. holds r x) xs ≡ o → is_some (upto (find (λ r. holds r x) xs)) ≡ false
           → upto (find (λ r. holds r x) (xs ++ ys)) ≡ upto (find (λ r. holds r x) ys)
-      go none q w = ap upto (find-append_none (λ r. holds r x) xs ys (find_none (λ r. holds r x) xs q))
-      go (some r) q w = contrary (is_upto (upto (find (λ r. holds r x) xs))) (ap (λ (o : Option Range). is_upto (upto o)) q) w
+      go None q w = ap upto (find-append_none (λ r. holds r x) xs ys (find_none (λ r. holds r x) xs q))
+      go (Some r) q w = contrary (is_some (upto (find (λ r. holds r x) xs))) (ap (λ (o : Option Range). is_some (upto o)) q) w
 
-pub cover_nil : (x : ℕ) → cover_of [] x ≡ Clear
+pub cover_nil : (x : ℕ) → cover_of [] x ≡ None
 unfolding cover_of find
 cover_nil x = refl
 

@@ -13,14 +13,10 @@ ghost use Rattle.rules_table.specs.Records.{zero_object, no_reserved, attached_t
 ghost use Rattle.rules_table.specs.Spaces.{reserved_for, reserved_of};
 ghost use Rattle.rules_table.specs.Good.{lists_touch};
 ghost use Rattle.rules_table.specs.Words.{objects_in};
-ghost use Rattle.reserved_ranges.specs.Covers.{is_upto};
 
-use alignment::Spot;
-use freeranges::{Cover, Gap};
 use placement::{Search, Want};
 use rangelists::{Allowed, Reserved};
 use ranges::{Range, U64MAX};
-use rules_table::Kind;
 
 // The slots of a head.
 const SLOTS: usize = 32;
@@ -35,20 +31,12 @@ fn no_reserved() -> Reserved
     }
 }
 
-// Whether an object reserves anything in space s: a device that is attached to it does.
-fn counts_in(k: Kind, s: u32) -> bool
-    ensures { result ≡ attached_to s k }
-{
-    table::attached_to(k, s)
-}
-
-// Whether slot i reserves anything in space s. Most do not, and no list is made of them.
+// Whether slot i reserves anything in space s: a device that is attached to it does. Most do not, and no list is made of them.
 fn reserves_in(h: &[u64; 865], i: usize, s: u32) -> bool
     requires { i < 32 }
     ensures { result ≡ attached_to s (get_or (objects_in h.now) i zero_object).kind }
 {
-    let k = layout_objects::kind_at(h, i);
-    counts_in(k, s)
+    table::attached_to(layout_objects::kind_at(h, i), s)
 }
 
 // What slot i reserves in space s: the list of a device that is attached to it, else an empty one.
@@ -56,8 +44,7 @@ pub fn reserved_for(h: &[u64; 865], i: usize, s: u32) -> Reserved
     requires { i < 32 }
     ensures { reserved result ≡ reserved_for s (get_or (objects_in h.now) i zero_object) }
 {
-    let k = layout_objects::kind_at(h, i);
-    if !counts_in(k, s) {
+    if !reserves_in(h, i, s) {
         return no_reserved();
     }
     layout_objects::reserved_at(h, i)
@@ -67,23 +54,18 @@ pub fn slot_touched(h: &[u64; 865], i: usize, s: u32, r: Range) -> bool
     requires { i < 32 }
     ensures { result ≡ any (share r) (reserved_for s (get_or (objects_in h.now) i zero_object)) }
 {
-    if !reserves_in(h, i, s) {
-        return false;
-    }
-    let l = layout_objects::reserved_at(h, i);
-    rangelists::is_found(rangelists::reserved_touched(l, r))
+    reserves_in(h, i, s)
+        && rangelists::reserved_touched(layout_objects::reserved_at(h, i), r).is_some()
 }
 
 // Whether a reserved range of space s shares an address with r.
 pub fn is_touched(h: &[u64; 865], s: u32, r: Range) -> bool
     ensures { result ≡ any (share r) (reserved_of (objects_in h.now) s) }
 {
-    let mut i: usize = 0;
-    while i < SLOTS {
+    for i in 0..SLOTS {
         if slot_touched(h, i, s, r) {
             return true;
         }
-        i += 1;
     }
     false
 }
@@ -92,20 +74,17 @@ fn slot_strays(h: &[u64; 865], i: usize, s: u32, l: Allowed) -> bool
     requires { i < 32 }
     ensures { result ≡ lists_touch (reserved_for s (get_or (objects_in h.now) i zero_object)) (allowed l) }
 {
-    let q = reserved_for(h, i, s);
-    table::lists_touch(q, l)
+    table::lists_touch(reserved_for(h, i, s), l)
 }
 
 // Whether a reserved range of space s shares an address with some range of an allow list.
 pub fn list_touched(h: &[u64; 865], s: u32, l: Allowed) -> bool
     ensures { result ≡ lists_touch (reserved_of (objects_in h.now) s) (allowed l) }
 {
-    let mut i: usize = 0;
-    while i < SLOTS {
+    for i in 0..SLOTS {
         if slot_strays(h, i, s, l) {
             return true;
         }
-        i += 1;
     }
     false
 }
@@ -117,7 +96,7 @@ fn sweep_slot(h: &[u64; 865], i: usize, s: u32, w: Want, from: u64) -> Search
 {
     if !reserves_in(h, i, s) {
         return Search {
-            spot: Spot::At(from),
+            spot: Some(from),
             jumps: 0,
         };
     }
@@ -132,28 +111,22 @@ pub fn sweep(h: &[u64; 865], s: u32, w: Want, from: u64) -> Search
 {
     let mut x = from;
     let mut jumps: usize = 0;
-    let mut i: usize = 0;
-    while i < SLOTS {
+    for i in 0..SLOTS {
         let r = sweep_slot(h, i, s, w, x);
         jumps += r.jumps;
-        let spot = r.spot;
-        let Spot::At(y) = spot else {
-            return Search {
-                spot: Spot::Nowhere,
-                jumps,
-            };
+        let Some(y) = r.spot else {
+            return Search { spot: None, jumps };
         };
         x = y;
-        i += 1;
     }
     Search {
-        spot: Spot::At(x),
+        spot: Some(x),
         jumps,
     }
 }
 
 // What holds x of what slot i reserves in space s.
-fn slot_cover(h: &[u64; 865], i: usize, s: u32, x: u64) -> Cover
+fn slot_cover(h: &[u64; 865], i: usize, s: u32, x: u64) -> Option<u64>
     requires { i < 32 }
     ensures { result ≡ cover_of (reserved_for s (get_or (objects_in h.now) i zero_object)) x }
 {
@@ -162,28 +135,17 @@ fn slot_cover(h: &[u64; 865], i: usize, s: u32, x: u64) -> Cover
     freeranges::covering(&l.starts, &l.lasts, n, x)
 }
 
-fn is_upto(c: Cover) -> bool
-    ensures { result ≡ is_upto c }
-{
-    match c {
-        Cover::Clear => false,
-        Cover::Upto(_) => true,
-    }
-}
-
 // The last of the first reserved range of space s that holds x.
-pub fn covering(h: &[u64; 865], s: u32, x: u64) -> Cover
+pub fn covering(h: &[u64; 865], s: u32, x: u64) -> Option<u64>
     ensures { result ≡ cover_of (reserved_of (objects_in h.now) s) x }
 {
-    let mut i: usize = 0;
-    while i < SLOTS {
+    for i in 0..SLOTS {
         let c = slot_cover(h, i, s, x);
-        if is_upto(c) {
+        if c.is_some() {
             return c;
         }
-        i += 1;
     }
-    Cover::Clear
+    None
 }
 
 // Where a run of free addresses from x on ends because of what slot i reserves in space s.
@@ -201,29 +163,28 @@ pub fn run_end(h: &[u64; 865], s: u32, x: u64) -> u64
     ensures { result ≡ run_end (reserved_of (objects_in h.now) s) x }
 {
     let mut lowest: u64 = U64MAX;
-    let mut i: usize = 0;
-    while i < SLOTS {
-        lowest = ranges::lower(lowest, slot_end(h, i, s, x));
-        i += 1;
+    for i in 0..SLOTS {
+        lowest = lowest.min(slot_end(h, i, s, x));
     }
     lowest
 }
 
 // The first free range of space s from an address on.
-pub fn next_free(h: &[u64; 865], s: u32, from: u64) -> Gap
+pub fn next_free(h: &[u64; 865], s: u32, from: u64) -> Option<Range>
     ensures { result ≡ gap_of (free_from from (reserved_of (objects_in h.now) s)) }
 {
     let mut x = from;
     loop {
-        let c = covering(h, s, x);
-        match c {
-            Cover::Clear => {
-                let e = run_end(h, s, x);
-                return Gap::At(x, e);
+        match covering(h, s, x) {
+            None => {
+                return Some(Range {
+                    start: x,
+                    last: run_end(h, s, x),
+                });
             }
-            Cover::Upto(end) => {
+            Some(end) => {
                 if end == U64MAX {
-                    return Gap::Nothing;
+                    return None;
                 }
                 x = end + 1;
             }
@@ -240,15 +201,14 @@ pub fn write_free(h: &[u64; 865], s: u32, room: usize, area: &mut [u8]) -> usize
     let mut x: u64 = 0;
     let mut k: usize = 0;
     loop {
-        let g = next_free(h, s, x);
-        let Gap::At(start, last) = g else {
+        let Some(free) = next_free(h, s, x) else {
             return k;
         };
-        freeranges::put_range(area, k, room, start, last);
+        freeranges::put_range(area, k, room, free.start, free.last);
         k += 1;
-        if last == U64MAX {
+        if free.last == U64MAX {
             return k;
         }
-        x = last + 1;
+        x = free.last + 1;
     }
 }

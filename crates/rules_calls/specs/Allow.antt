@@ -5,6 +5,8 @@ use Rattle.lists.specs.Checks.{Check, when, first}
 use Rattle.rangelists.specs.declared.Allowed.{Allowed}
 use Rattle.rangelists.specs.Listed.{allowed, places, listed, reserved, ordered, valid, overlap}
 use Rattle.wire.specs.Fields.{field, put}
+use Rattle.rules_table.specs.declared.Attachment.TheVariants.{Loose, Attached}
+use Rattle.rules_table.specs.declared.Attachment.{Attachment}
 use Rattle.rules_table.specs.Limits.{most_allowed, range_bytes}
 use Rattle.rules_table.specs.declared.Object.{Object}
 use Rattle.rules_table.specs.Records.{object_at, space_at, no_reserved, no_allowed, new_space}
@@ -17,8 +19,6 @@ use Rattle.rules_calls.specs.Edits.{settle, accept}
 use Rattle.lists.specs.Search.{any, all}
 use Rattle.lists.specs.Pairs.{clashes}
 use Rattle.ranges.specs.Ranges.{U64MAX, share, shared_start, shared_last}
-use Rattle.rules_table.specs.declared.Attachment.{Attachment}
-use Rattle.rules_table.specs.declared.Attachment.TheVariants.{Loose, Attached}
 use Rattle.rules_table.specs.declared.Kind.TheVariants.{Space, Device}
 
 -- ---- the fields

@@ -8,6 +8,7 @@ use Rattle.ranges.specs.Ranges.{share, shared_start, shared_last, last_of, span}
 use Rattle.alignment.specs.Multiples.{fits, multiple}
 use Rattle.alignment.specs.Pages.{smallest_page}
 use Rattle.rangelists.specs.Listed.{reserved, allowed, places, listed}
+use Rattle.rules_table.specs.declared.Attachment.{Attachment}
 use Rattle.rules_table.specs.declared.Attachment.TheVariants.{Loose, Attached}
 use Rattle.rules_table.specs.declared.Kind.TheVariants.{Device, Space}
 use Rattle.rules_table.specs.declared.Object.{Object}
@@ -20,7 +21,6 @@ use Rattle.rules_calls.specs.declared.Edit.{Edit}
 use Rattle.rules_calls.specs.Edits.{settle, accept}
 use Rattle.std.specs.Int.Count.{count_trailing_zeros}
 use Rattle.alignment.specs.Highest.{highest}
-use Rattle.rules_table.specs.declared.Attachment.{Attachment}
 
 -- a mapping of the space that shares an address with one of the ranges
 unfoldable pub blocked_by : ℕ → List Range → Mapping → Bool

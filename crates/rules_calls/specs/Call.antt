@@ -1,10 +1,8 @@
 -- One door for the seven commands (document 01, "Opening a command, in order" and after it): 117, the opening, and by the request number what each command decides, changes
 -- and writes.
-use Rattle.std.specs.Prelude.{ℕ, ◌+◌, ◌^◌, List, [], ◌∷◌, ◌++◌, ◌≡◌, refl, pos, neg_ℤ, replicate}
+use Rattle.std.specs.Prelude.{ℕ, ◌+◌, ◌^◌, List, [], ◌∷◌, ◌++◌, ◌≡◌, refl, pos, neg_ℤ, replicate, Option, Some, None}
 use Rattle.rules_calls.specs.declared.Command.{Command}
 use Rattle.rules_calls.specs.declared.Command.TheVariants.{Destroy, IoasAlloc, AllowIovas, Copy, IovaRanges, Map, Unmap}
-use Rattle.rules_calls.specs.declared.Row.{Row}
-use Rattle.rules_calls.specs.declared.Row.TheVariants.{Unlisted, Listed}
 use Rattle.rules_calls.specs.Requests.{lookup}
 use Rattle.rules_table.specs.declared.Table.{Table}
 use Rattle.rules_calls.specs.declared.Answer.{Answer}
@@ -39,9 +37,9 @@ command_edit Map t bytes area = map_edit t.limit t.objects t.mappings (map_field
 command_edit Unmap t bytes area = unmap_edit t.objects t.mappings (unmap_fields bytes)
 
 -- a request that is not listed is refused by the gate
-abbrev pub row_edit : Row → Table → List ℕ → List ℕ → Edit
-row_edit Unlisted t bytes area = refuse 25
-row_edit (Listed c size) t bytes area = command_edit c t bytes area
+abbrev pub row_edit : Option Command → Table → List ℕ → List ℕ → Edit
+row_edit None t bytes area = refuse 25
+row_edit (Some c) t bytes area = command_edit c t bytes area
 
 -- 117, then the opening, then the command
 unfoldable pub call_edit : Table → ℕ → List ℕ → List ℕ → Edit
@@ -66,9 +64,9 @@ command_done IovaRanges t e bytes area = done t e (ranges_replied t.objects e.er
 command_done Map t e bytes area = done t e (replied 8 32 e.errno e.value bytes) area
 command_done Unmap t e bytes area = done t e (replied 8 16 e.errno e.value bytes) area
 
-abbrev pub row_done : Row → Table → Edit → List ℕ → List ℕ → Done
-row_done Unlisted t e bytes area = done t e bytes area
-row_done (Listed c size) t e bytes area = command_done c t e bytes area
+abbrev pub row_done : Option Command → Table → Edit → List ℕ → List ℕ → Done
+row_done None t e bytes area = done t e bytes area
+row_done (Some c) t e bytes area = command_done c t e bytes area
 
 unfoldable pub call_done : Table → ℕ → List ℕ → List ℕ → Done
 call_done t request bytes area = row_done (lookup request) t (call_edit t request bytes area) bytes area

@@ -1,8 +1,7 @@
 -- COPY: unknown flags 95; no right 22; length as in MAP 22; source address + length - 1 past U64MAX 75; fixed target likewise 75; no target space 2; no source space 2;
 -- no source mapping with exactly this address and length 2; writeable asked where the founding MAP was not 1. Then as MAP from its alignment check on, without the
 -- charge check. Both spaces may be the same.
-use Rattle.std.specs.Prelude.{ℕ, ◌+◌, ◌^◌, Bool, not, ◌&&◌, List, [], ◌∷◌, ◌++◌, map, eqb, ◌≡◌, refl}
-use Rattle.std.proofs.Math.Option.{Option, none, some}
+use Rattle.std.specs.Prelude.{ℕ, ◌+◌, ◌^◌, Bool, not, ◌&&◌, List, [], ◌∷◌, ◌++◌, map, eqb, ◌≡◌, refl, Option, None, Some}
 use Rattle.lists.specs.Checks.{Check, when, first}
 use Rattle.ranges.specs.Ranges.{passes, U64MAX}
 use Rattle.rules_table.specs.Flags.{bit, unknown, fixed, writeable}
@@ -58,8 +57,8 @@ copy_number_checks os c =
 
 -- the source, and a released record where there is none
 abbrev pub source_mapping : Option Mapping → Mapping
-source_mapping none = zero_mapping
-source_mapping (some m) = m
+source_mapping None = zero_mapping
+source_mapping (Some m) = m
 
 -- no source: 2; writeable asked where the founding MAP was not: 1
 unfoldable pub source_checks : ℕ → Option Mapping → List (Check ℕ)

@@ -1,6 +1,6 @@
 -- An edit: what a call decides over a good table. Deciding changes nothing; `applied` is the table after it.
-use Rattle.std.specs.Prelude.{ℕ, zero, suc, ◌+◌, Bool, true, false, cond, List, map, [], ◌∷◌, leb, set, ◌≡◌, refl}
-use Rattle.std.proofs.Math.Option.{Option, none, some}
+pub use Rattle.std.specs.Prelude.{is_none}
+use Rattle.std.specs.Prelude.{ℕ, zero, suc, ◌+◌, Bool, true, false, cond, List, map, [], ◌∷◌, leb, set, ◌≡◌, refl, Option, None, Some}
 use Rattle.lists.specs.Checks.{Check, when}
 use Rattle.rules_table.specs.Limits.{object_count}
 use Rattle.rules_table.specs.declared.Object.{Object}
@@ -27,14 +27,10 @@ abbrev pub settle : ℕ → Edit → Edit
 settle zero e = e
 settle (suc n) e = refuse (suc n)
 
-abbrev pub is_none : {A : Type 0} → Option A → Bool
-is_none none = true
-is_none (some a) = false
-
 -- the number that was found, 0 where none was
 abbrev pub number_in : Option ℕ → ℕ
-number_in none = 0
-number_in (some n) = n
+number_in None = 0
+number_in (Some n) = n
 
 -- no record: 12
 abbrev pub no_record : Option ℕ → Check ℕ
@@ -42,8 +38,8 @@ no_record free = when (is_none free) 12
 
 -- a new object takes the lowest free record and gets its id; where none is left, `noRecord` has said so
 abbrev pub added : Option ℕ → Object → Edit
-added none n = refuse 12
-added (some i) n = accept (i + 1) (Put i) n
+added None n = refuse 12
+added (Some i) n = accept (i + 1) (Put i) n
 
 -- the object records after a change, in whatever form they are kept: the new one in its slot, a released one where a space was
 abbrev pub objects_after : {A : Type 0} → A → A → Change → List A → List A
@@ -90,7 +86,7 @@ unfolding applies
 refused = refl
 
 -- a new object in slot 1 has the id 2
-added-second : added (some 1) new_space ≡ accept 2 (Put 1) new_space
+added-second : added (Some 1) new_space ≡ accept 2 (Put 1) new_space
 added-second = refl
 
 -- one object record is written

@@ -1,7 +1,6 @@
 -- MAP: flags above bit 2 or reserved field not 0: 95; neither writeable nor readable: 22; length 0 or over 2^40: 22; memory + length - 1 past U64MAX: 75; fixed and
 -- address + length - 1 past U64MAX: 75; no such space: 2; then the place; no free mapping record: 12; charge would pass the limit: 12.
-use Rattle.std.specs.Prelude.{ℕ, ◌+◌, ◌^◌, Bool, not, ◌&&◌, ◌||◌, List, [], ◌∷◌, ◌++◌, map, ltb, eqb, ◌≡◌, refl}
-use Rattle.std.proofs.Math.Option.{Option, none, some}
+use Rattle.std.specs.Prelude.{ℕ, ◌+◌, ◌^◌, Bool, not, ◌&&◌, ◌||◌, List, [], ◌∷◌, ◌++◌, map, ltb, eqb, ◌≡◌, refl, Option, None, Some}
 use Rattle.lists.specs.Tests.{only_if}
 use Rattle.lists.specs.Checks.{Check, when, first}
 use Rattle.ranges.specs.Ranges.{passes, U64MAX}
@@ -42,8 +41,8 @@ rights_of flags = only_if (writeable flags) 1 + only_if (readable flags) 2
 
 -- a new mapping takes the lowest free record; its address is the reply
 abbrev pub mapped : Option ℕ → Mapping → Edit
-mapped none m = refuse 12
-mapped (some i) m = accept m.address (Map i m) free_object
+mapped None m = refuse 12
+mapped (Some i) m = accept m.address (Map i m) free_object
 
 -- flags ask for no right
 unfoldable pub no_right : ℕ → Bool

@@ -2,6 +2,8 @@
 use Rattle.std.specs.Prelude.{ℕ, ◌-◌, Bool, not, ◌||◌, List, [], ◌∷◌, map, eqb, ◌≡◌, refl}
 use Rattle.lists.specs.Search.{any, seek}
 use Rattle.lists.specs.Checks.{Check, when, first}
+use Rattle.rules_table.specs.declared.Attachment.TheVariants.{Loose, Attached}
+use Rattle.rules_table.specs.declared.Attachment.{Attachment}
 use Rattle.rules_table.specs.declared.Kind.{Kind}
 use Rattle.rules_table.specs.declared.Kind.TheVariants.{Free, Space, Device}
 use Rattle.rules_table.specs.declared.Object.{Object}
@@ -11,8 +13,6 @@ use Rattle.rules_calls.specs.declared.Change.{Change}
 use Rattle.rules_calls.specs.declared.Change.TheVariants.{Put, Drop}
 use Rattle.rules_calls.specs.declared.Edit.{Edit}
 use Rattle.rules_calls.specs.Edits.{settle, accept, added, no_record}
-use Rattle.rules_table.specs.declared.Attachment.{Attachment}
-use Rattle.rules_table.specs.declared.Attachment.TheVariants.{Loose, Attached}
 use Rattle.wire.specs.Fields.{field}
 
 -- ---- the fields. IOAS_ALLOC: size, flags, out id; DESTROY: size, id

@@ -1,11 +1,12 @@
 -- Reach, read or write: no device 2; not attached 22; length 0: 22; past U64MAX 75; not wholly inside one mapping 14; right missing 1; else memory start +
 -- (address - mapping address).
-use Rattle.std.specs.Prelude.{ℕ, ◌+◌, ◌-◌, Bool, true, false, not, ◌&&◌, List, [], ◌∷◌, ◌++◌, map, eqb, ◌≡◌, refl}
-use Rattle.std.proofs.Math.Option.{Option, none, some}
+use Rattle.std.specs.Prelude.{ℕ, ◌+◌, ◌-◌, Bool, true, false, not, ◌&&◌, List, [], ◌∷◌, ◌++◌, map, eqb, ◌≡◌, refl, Option, None, Some}
 use Rattle.lists.specs.Search.{find}
 use Rattle.lists.specs.Checks.{Check, when, first}
 use Rattle.ranges.specs.declared.Range.{Range}
 use Rattle.ranges.specs.Ranges.{inside, passes, span, U64MAX, last_of}
+use Rattle.rules_table.specs.declared.Attachment.TheVariants.{Loose, Attached}
+use Rattle.rules_table.specs.declared.Attachment.{Attachment}
 use Rattle.rules_table.specs.declared.Kind.{Kind}
 use Rattle.rules_table.specs.declared.Object.{Object}
 use Rattle.rules_table.specs.declared.Mapping.{Mapping}
@@ -13,8 +14,6 @@ use Rattle.rules_table.specs.Records.{object_at, is_device, is_attached, home_of
 use Rattle.rules_calls.specs.declared.Edit.{Edit}
 use Rattle.rules_calls.specs.Edits.{refuse, tells, settle, is_none}
 use Rattle.rules_table.specs.Flags.{bit}
-use Rattle.rules_table.specs.declared.Attachment.{Attachment}
-use Rattle.rules_table.specs.declared.Attachment.TheVariants.{Loose, Attached}
 use Rattle.rules_table.specs.declared.Kind.TheVariants.{Device}
 
 -- the mapping of the space that holds the whole interval
@@ -36,8 +35,8 @@ reach_checks k a n =
 
 -- what is there: not wholly inside one mapping 14; right missing 1
 abbrev pub lacks_right : Bool → Option Mapping → Bool
-lacks_right write none = false
-lacks_right write (some m) = not (may_do write m)
+lacks_right write None = false
+lacks_right write (Some m) = not (may_do write m)
 
 unfoldable pub held_checks : Bool → Option Mapping → List (Check ℕ)
 held_checks write o =
@@ -47,8 +46,8 @@ held_checks write o =
 
 -- else memory start + (address - mapping address)
 abbrev pub memory_at : ℕ → Option Mapping → ℕ
-memory_at a none = 0
-memory_at a (some m) = m.memory + (a - m.address)
+memory_at a None = 0
+memory_at a (Some m) = m.memory + (a - m.address)
 
 unfoldable pub reach_by : Kind → ℕ → ℕ → Bool → Option Mapping → Edit
 reach_by k a n write o = settle (first (reach_checks k a n ++ held_checks write o) 0) (tells (memory_at a o))

@@ -1,7 +1,6 @@
 -- The ledger (document 01, "Demand 3's ledger"): it starts empty and is fed each call's arguments and answer, never the table. A refused call, or one not named there, changes
 -- nothing in it. Its entries are the mappings that exist.
-use Rattle.std.specs.Prelude.{ℕ, suc, ◌+◌, ◌-◌, ◌≡◌, refl, Bool, true, false, not, ◌&&◌, ◌||◌, List, [], ◌∷◌, eqb, ℤ, pos, negsuc, replicate}
-use Rattle.std.proofs.Math.Option.{Option, none, some}
+use Rattle.std.specs.Prelude.{ℕ, suc, ◌+◌, ◌-◌, ◌≡◌, refl, Bool, true, false, not, ◌&&◌, ◌||◌, List, [], ◌∷◌, eqb, ℤ, pos, negsuc, replicate, Option, None, Some}
 use Rattle.lists.specs.Tests.{only_if}
 use Rattle.lists.specs.Search.{any, find}
 use Rattle.lists.specs.Sums.{sum_of, keep}
@@ -13,8 +12,6 @@ use Rattle.wire.specs.Fields.{field, put}
 use Rattle.rules_table.specs.Flags.{bit}
 use Rattle.rules_calls.specs.declared.Command.{Command}
 use Rattle.rules_calls.specs.declared.Command.TheVariants as Named
-use Rattle.rules_calls.specs.declared.Row.{Row}
-use Rattle.rules_calls.specs.declared.Row.TheVariants.{Unlisted, Listed}
 use Rattle.rules_calls.specs.Requests.{commands, lookup}
 use Rattle.rules_calls.specs.Map.{map_fields, rights_of}
 use Rattle.rules_calls.specs.Copy.{copy_fields}
@@ -84,8 +81,8 @@ abbrev pub no_entry : Entry
 no_entry = record { space = 0; address = 0; length = 0; root = 0; memory = 0; rights = 0 }
 
 abbrev pub or_none : Option Entry → Entry
-or_none none = no_entry
-or_none (some e) = e
+or_none None = no_entry
+or_none (Some e) = e
 
 unfoldable pub source_entry : List Entry → ℕ → ℕ → ℕ → Entry
 source_entry es s a n = or_none (find (entry_is s a n) es)
@@ -164,9 +161,9 @@ command_fed Named.IovaRanges bytes written l = tick l
 command_fed Named.Map bytes written l = with_map bytes written l
 command_fed Named.Unmap bytes written l = with_unmap bytes written l
 
-abbrev pub row_fed : Row → List ℕ → List ℕ → Ledger → Ledger
-row_fed Unlisted bytes written l = tick l
-row_fed (Listed c size) bytes written l = command_fed c bytes written l
+abbrev pub row_fed : Option Command → List ℕ → List ℕ → Ledger → Ledger
+row_fed None bytes written l = tick l
+row_fed (Some c) bytes written l = command_fed c bytes written l
 
 -- a result from 0 on is an accepted call
 abbrev pub accepts : ℤ → Bool

@@ -1,6 +1,6 @@
 -- Say what stood in the way (L1): the first failing check of a MAP or a COPY by its name. For a touched range it is named with the object or the mapping record that has
 -- the lowest number; for 28 with the longest free run. The names stand beside the checks of the commands, in their order.
-use Rattle.std.specs.Prelude.{ℕ, ◌+◌, ◌^◌, ◌≡◌, refl, Bool, true, false, cond, List, [], ◌∷◌, ◌++◌, map, replicate}
+use Rattle.std.specs.Prelude.{ℕ, ◌+◌, ◌^◌, ◌≡◌, refl, Bool, true, false, cond, List, [], ◌∷◌, ◌++◌, map, replicate, Some, Option, None}
 use Rattle.lists.specs.Search.{any, seek}
 use Rattle.lists.specs.Checks.{Check, when, first}
 use Rattle.ranges.specs.declared.Range.{Range}
@@ -8,14 +8,13 @@ use Rattle.ranges.specs.Ranges.{U64MAX, share, span}
 use Rattle.alignment.specs.Multiples.{lowest_multiple}
 use Rattle.rangelists.specs.Listed.{allowed}
 use Rattle.runs.specs.declared.Run.{Run}
-use Rattle.runs.specs.declared.Run.TheVariants.{Nothing, Of}
-use Rattle.runs.specs.Runs.{ahead, cut_at, free_to, run_from, over, past_range, in_window, windows, longest_of}
+use Rattle.runs.specs.Runs.{run, ahead, cut_at, free_to, run_from, over, past_range, in_window, windows, longest_of}
+use Rattle.rules_table.specs.declared.Attachment.TheVariants.{Attached}
 use Rattle.rules_table.specs.Flags.{fixed}
 use Rattle.rules_table.specs.declared.Object.{Object}
 use Rattle.rules_table.specs.declared.Mapping.{Mapping}
 use Rattle.rules_table.specs.Records.{object_at, touches, no_reserved, no_allowed, new_space, zero_mapping}
 use Rattle.rules_table.specs.Spaces.{alignment, reserved_for}
-use Rattle.rules_table.specs.declared.Attachment.TheVariants.{Attached}
 use Rattle.rules_table.specs.declared.Kind.TheVariants.{Space, Device}
 use Rattle.rules_calls.specs.Edits.{number_in}
 use Rattle.rules_calls.specs.Landing.{blocked_in, lowest_tried}
@@ -70,7 +69,7 @@ unfoldable pub record_touched : List Mapping → ℕ → Range → ℕ
 record_touched ms s r = lowest_number (touches s r) ms
 
 -- the longest free run of space s
-unfoldable pub longest_in : List Object → List Mapping → ℕ → Run
+unfoldable pub longest_in : List Object → List Mapping → ℕ → Option Run
 longest_in os ms s = longest_of (alignment os s) lowest_tried (blocked_in os ms s) (allowed (object_at os s).allow)
 
 -- ---- the names, list by list as the checks
@@ -148,7 +147,7 @@ why-fixed = refl
 
 -- automatic: a length that is no multiple; no place. The longest run lies in the list and past the mapping; with the list mapped whole there is none
 why-place : (why (new_space ∷ device 0x3000 0x3FFF ∷ []) [] 4 0 1 7 ∷ why (space 1 0x100000 0x1FFFFF ∷ []) (at 0x1000 0x100000 ∷ []) 4 0 0x100000 7 ∷ why (space 1 0x100000 0x1FFFFF ∷ []) (at 0x100000 0x100000 ∷ []) 4 0 1 7 ∷ [])
-    ≡ (LengthMisaligned ∷ NoPlace (Of 0x101000 0xFEFFF) ∷ NoPlace Nothing ∷ [])
+    ≡ (LengthMisaligned ∷ NoPlace (Some (run 0x101000 0xFEFFF)) ∷ NoPlace None ∷ [])
 unfolding reasons
 why-place = refl
 

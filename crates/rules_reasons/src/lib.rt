@@ -28,14 +28,7 @@ pub enum Reason {
     TouchesMapping(u32),
     LengthMisaligned,
     // The longest free run.
-    NoPlace(Run),
+    NoPlace(Option<Run>),
     NoRecord,
     OverLimit,
-}
-
-// What the tool answers: an errno of its own, or what stood in the way.
-#[derive(Clone, Copy)]
-pub enum Explained {
-    Refused(u8),
-    Told(Reason),
 }

@@ -5,13 +5,13 @@ use Rattle.alignment.specs.Pages.{smallest_page}
 use Rattle.rangelists.specs.declared.Reserved.{Reserved}
 use Rattle.rangelists.specs.declared.Allowed.{Allowed}
 use Rattle.rangelists.specs.Listed.{reserved, allowed, valid, overlap, ordered, listed, places}
+use Rattle.rules_table.specs.declared.Attachment.TheVariants.{Loose}
 use Rattle.rules_table.specs.Limits.{most_page, most_reserved, most_allowed}
 use Rattle.rules_table.specs.declared.Object.{Object}
 use Rattle.std.specs.Int.Count.{count_trailing_zeros}
 use Rattle.lists.specs.Search.{any, all}
 use Rattle.lists.specs.Pairs.{clashes}
 use Rattle.ranges.specs.Ranges.{share, shared_start, shared_last}
-use Rattle.rules_table.specs.declared.Attachment.TheVariants.{Loose}
 use Rattle.rules_table.specs.declared.Kind.TheVariants.{Space, Device}
 use Rattle.rules_table.specs.Records.{no_reserved, no_allowed}
 

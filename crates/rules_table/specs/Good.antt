@@ -13,9 +13,9 @@ use Rattle.alignment.specs.Pages.{smallest_page}
 use Rattle.alignment.specs.Highest.{highest}
 use Rattle.rangelists.specs.Listed.{places, listed, reserved, allowed, ordered, valid, overlap}
 use Rattle.wire.specs.Fields.{zeros}
+use Rattle.rules_table.specs.declared.Attachment.TheVariants.{Attached}
 use Rattle.rules_table.specs.Limits.{most_limit, most_length, object_count, mapping_count, most_reserved, most_allowed}
 use Rattle.rules_table.specs.Flags.{bit}
-use Rattle.rules_table.specs.declared.Attachment.TheVariants.{Attached}
 use Rattle.rules_table.specs.declared.Kind.TheVariants.{Device}
 use Rattle.rules_table.specs.declared.Object.{Object}
 use Rattle.rules_table.specs.declared.Mapping.{Mapping}

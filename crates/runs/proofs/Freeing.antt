@@ -1,4 +1,5 @@
 -- What the code does, step by step, is what the definitions compute.
+use Rattle.std.specs.Prelude.{None, Some, Option}
 use Prim.Native.Nat.{ℕ, ◌+◌, ◌-◌, ◌≤◌, ◌<◌, min}
 use mathlib.Core.Path.{◌≡◌, refl, sym, ap, ◌∙◌}
 use mathlib.Core.Bool.{Bool, true, false}
@@ -6,45 +7,25 @@ use mathlib.Core.List.{List, ◌∷◌}
 use native.Mathlib.Omega.{arith}
 use lib.Dec.{leb, ltb}
 use lib.ListN.{length, get_or, drop, drop_of_length-le}
-use borrow.Author.Tests.{le-leb, lt-leb, lt-ltb, le-ltb, eq-eqb, ne_eqb}
+use borrow.Author.Tests.{le-leb, lt-leb, lt-ltb, le-ltb}
 use Rattle.lists.specs.Tests.{and_not_right}
 use Rattle.lists.specs.Search.{drop_turn}
 use Rattle.ranges.specs.declared.Range.{Range}
 use Rattle.ranges.specs.Ranges.{range, share}
-use Rattle.alignment.specs.declared.Spot.TheVariants.{Nowhere, At}
 use Rattle.rangelists.specs.Listed.{listed, length-listed, get_d_listed, zero_range}
 use Rattle.runs.specs.declared.Run.{Run}
-use Rattle.runs.specs.declared.Run.TheVariants.{Nothing, Of}
-use Rattle.runs.specs.Runs.{ahead, better, cut_at, free_to}
+use Rattle.runs.specs.Runs.{run, ahead, better, cut_at, free_to}
 
 -- ---- the better of two
 
-module _ (x k y l : ℕ) where
-  pub ahead_more : l < k → true ≡ ahead x k y l
-  unfolding ahead
-  ahead_more h = rw (lt-ltb l k h)
-
-  pub ahead-less : k < l → false ≡ ahead x k y l
-  unfolding ahead
-  ahead-less h = rw (le-ltb l k (omega arith), ne_eqb l k (λ e. omega arith))
-
-  module _ (same : l ≡ k) where
-    pub ahead-higher : y < x → false ≡ ahead x k y l
-    unfolding ahead
-    ahead-higher h = rw (le-ltb l k (omega arith), eq-eqb l k same, lt-leb x y h)
-
-    pub ahead_lower : x ≤ y → true ≡ ahead x k y l
-    unfolding ahead
-    ahead_lower h = rw (le-ltb l k (omega arith), eq-eqb l k same, le-leb x y h)
-
-module _ (r s : Run) (x k : ℕ) (e : r ≡ Of x k) where
-  pub better-only : s ≡ Nothing → Of x k ≡ better r s
+module _ (r s : Option Run) (x k : ℕ) (e : r ≡ Some (run x k)) where
+  pub better-only : s ≡ None → Some (run x k) ≡ better r s
   better-only f = rw (e, f)
 
-  pub better-left : (y l : ℕ) → s ≡ Of y l → (b : Bool) → b ≡ ahead x k y l → b ≡ true → Of x k ≡ better r s
+  pub better-left : (y l : ℕ) → s ≡ Some (run y l) → (b : Bool) → b ≡ ahead x k y l → b ≡ true → Some (run x k) ≡ better r s
   better-left y l f b g t = rw (e, f, ← g, t)
 
-  pub better-right : (y l : ℕ) → s ≡ Of y l → (b : Bool) → b ≡ ahead x k y l → b ≡ false → Of y l ≡ better r s
+  pub better-right : (y l : ℕ) → s ≡ Some (run y l) → (b : Bool) → b ≡ ahead x k y l → b ≡ false → Some (run y l) ≡ better r s
   better-right y l f b g t = rw (e, f, ← g, t)
 
 -- ---- where the free addresses end
@@ -80,7 +61,7 @@ module _ (upto x n : ℕ) (ss ls : List ℕ) (hs : n ≤ length ss) (hl : n ≤ 
     tested : (t : Bool) → b ≡ t → share (range x x) (range (get_or ss i 0) (get_or ls i 0)) ≡ t
     tested t k = sym (ap (λ (y : ℕ). share (range y v) (range (get_or ss i 0) (get_or ls i 0))) hu ∙ ap (λ (y : ℕ). share (range x y) (range (get_or ss i 0) (get_or ls i 0))) hv) ∙ sym g ∙ k
 
-    pub free_in : b ≡ true → Nowhere ≡ free_to upto x (listed n ss ls)
+    pub free_in : b ≡ true → None ≡ free_to upto x (listed n ss ls)
     unfolding free_to
     free_in t = sym (rw (tested true t)) ∙ turn h
 
@@ -91,6 +72,6 @@ module _ (upto x n : ℕ) (ss ls : List ℕ) (hs : n ≤ length ss) (hl : n ≤ 
   done : n ≤ i → length (listed n ss ls) ≤ i
   done h = omega (arith, length-listed n ss ls hs hl)
 
-  pub free-end : n ≤ i → At e ≡ free_to upto x (listed n ss ls)
+  pub free-end : n ≤ i → Some e ≡ free_to upto x (listed n ss ls)
   unfolding free_to
   free-end h = sym (ap (free_to e x) (drop_of_length-le (listed n ss ls) (done h))) ∙ inv

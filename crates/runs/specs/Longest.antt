@@ -1,11 +1,10 @@
 -- `longestOf` computes the longest run. For a run from y on in a window, `place-lowest` gives a start at or below y that is a candidate for as many bytes: the run from there is as long.
 use Prim.Native.Nat.{ℕ, ◌+◌, ◌-◌, ◌≤◌, ◌<◌, zero-le, min}
-use Rattle.std.specs.Prelude.{◌≡◌, Bool, ◌&&◌, ltb, eqb}
+use Rattle.std.specs.Prelude.{◌≡◌, Bool, ◌&&◌, ltb, eqb, Option, None, Some}
 use Rattle.std.proofs.Math.Path.{refl, subst}
 use Rattle.std.proofs.Common.{sym, ap, ◌∙◌}
 use Rattle.std.proofs.Math.Bool.{true, false, cond}
 use mathlib.Core.List.{List, [], ◌∷◌, ◌++◌, map}
-use Rattle.std.proofs.Math.Option.{Option, none, some}
 use native.Mathlib.Omega.{arith}
 use Rattle.std.proofs.Math.Dec.{leb}
 use borrow.Author.Tests.{leb-true, leb-false, le-leb, lt-leb, lt-ltb, le-ltb, ltb-true, ltb-false, eqb-true, eq-eqb}
@@ -16,21 +15,18 @@ use Rattle.lists.specs.Update.{any-map}
 use Rattle.ranges.specs.declared.Range.{Range}
 use Rattle.ranges.specs.Ranges.{U64MAX, range, share, shared_start, shared_last, inside, inside-from, inside-upto, passes, passes-false, last_of, last_of-max, span}
 use Rattle.ranges.proofs.Spans.{span_last}
-use Rattle.alignment.specs.declared.Spot.{Spot}
-use Rattle.alignment.specs.declared.Spot.TheVariants.{Nowhere, At}
-use Rattle.alignment.specs.Multiples.{multiple, round_up, Lowest, lowest_multiple, spot_of}
+use Rattle.alignment.specs.Multiples.{multiple, round_up, Lowest, lowest_multiple}
 use Rattle.placement.specs.Candidates.{permits, Candidate, is_candidate, starts, lower, lowest_of, place_of}
 use Rattle.placement.specs.Lowest.{is_candidate-is, candidate_is, place-lowest}
 use Rattle.runs.specs.declared.Run.{Run}
-use Rattle.runs.specs.declared.Run.TheVariants.{Nothing, Of}
-use Rattle.runs.specs.Runs.{Free, Longest, ahead, better, cut_at, free_to, up_to, run_at, run_from, over, past_range, in_window, windows, longest_of}
+use Rattle.runs.specs.Runs.{run, Free, Longest, ahead, better, cut_at, free_to, up_to, run_at, run_from, over, past_range, in_window, windows, longest_of}
 
 -- ---- the better of two is at least as good as each
 
 -- r is as good as a run of l + 1 from y
-abbrev Beats : Run → ℕ → ℕ → Type 0
-Beats Nothing y l = ⊥
-Beats (Of x k) y l = (l ≤ k) × (l ≡ k → x ≤ y)
+abbrev Beats : Option Run → ℕ → ℕ → Type 0
+Beats None y l = ⊥
+Beats (Some x) y l = (l ≤ x.more) × (l ≡ x.more → x.start ≤ y)
 
 ahead-true : (x k y l : ℕ) → ahead x k y l ≡ true → (l ≤ k) × (l ≡ k → x ≤ y)
 unfolding ahead
@@ -50,44 +46,44 @@ ahead-false x k y l e =
           (λ t. let m = leb-false x y t in omega arith),
     )
 
-better-first : (r s : Run) (y l : ℕ) → Beats r y l → Beats (better r s) y l
-better-first Nothing s y l h = absurd h
-better-first (Of x k) Nothing y l h = h
-better-first (Of x k) (Of z m) y l h =
-    by-test (ahead x k z m)
+better-first : (r s : Option Run) (y l : ℕ) → Beats r y l → Beats (better r s) y l
+better-first None s y l h = absurd h
+better-first (Some x) None y l h = h
+better-first (Some x) (Some z) y l h =
+    by-test (ahead x.start x.more z.start z.more)
     (λ t. rw t h)
-    (λ t. let f = ahead-false x k z m t in rw t (omega (arith, f.0, h.0), λ q. let a : k ≡ m = omega (arith, f.0, h.0, q) in let b : l ≡ k = omega arith in omega (arith, f.1 a, h.1 b)))
+    (λ t. let f = ahead-false x.start x.more z.start z.more t in rw t (omega (arith, f.0, h.0), λ q. let a : x.more ≡ z.more = omega (arith, f.0, h.0, q) in let b : l ≡ x.more = omega arith in omega (arith, f.1 a, h.1 b)))
 
-better-second : (r s : Run) (y l : ℕ) → Beats s y l → Beats (better r s) y l
-better-second Nothing s y l h = h
-better-second (Of x k) Nothing y l h = absurd h
-better-second (Of x k) (Of z m) y l h =
-    by-test (ahead x k z m)
-    (λ t. let f = ahead-true x k z m t in rw t (omega (arith, f.0, h.0), λ q. let a : m ≡ k = omega (arith, f.0, h.0, q) in let b : l ≡ m = omega arith in omega (arith, f.1 a, h.1 b)))
+better-second : (r s : Option Run) (y l : ℕ) → Beats s y l → Beats (better r s) y l
+better-second None s y l h = h
+better-second (Some x) None y l h = absurd h
+better-second (Some x) (Some z) y l h =
+    by-test (ahead x.start x.more z.start z.more)
+    (λ t. let f = ahead-true x.start x.more z.start z.more t in rw t (omega (arith, f.0, h.0), λ q. let a : z.more ≡ x.more = omega (arith, f.0, h.0, q) in let b : l ≡ z.more = omega arith in omega (arith, f.1 a, h.1 b)))
     (λ t. rw t h)
 
 -- and it is one of the two
-better-one : (P : Run → Type 0) (r s : Run) → P r → P s → P (better r s)
-better-one P Nothing s h k = k
-better-one P (Of x k) Nothing h q = h
-better-one P (Of x k) (Of z m) h q = by-test (ahead x k z m) (λ t. rw t h) (λ t. rw t q)
+better-one : (P : Option Run → Type 0) (r s : Option Run) → P r → P s → P (better r s)
+better-one P None s h k = k
+better-one P (Some x) None h q = h
+better-one P (Some x) (Some z) h q = by-test (ahead x.start x.more z.start z.more) (λ t. rw t h) (λ t. rw t q)
 
 -- ---- one after another
 
-module _ {A : Type 0} (g : Run → A → Run) where
+module _ {A : Type 0} (g : Option Run → A → Option Run) where
   -- what is kept by each is kept by all
-  over-keeps : (P : Run → Type 0) (Q : A → Type 0) (r : Run) (xs : List A) → ((r : Run) (x : A) → Q x → P r → P (g r x)) → Each Q xs → P r → P (over g r xs)
+  over-keeps : (P : Option Run → Type 0) (Q : A → Type 0) (r : Option Run) (xs : List A) → ((r : Option Run) (x : A) → Q x → P r → P (g r x)) → Each Q xs → P r → P (over g r xs)
   unfolding over
   over-keeps P Q r [] f e h = h
   over-keeps P Q r (x ∷ xs) f e h = over-keeps P Q (g r x) xs f e.1 (f r x e.0 h)
 
-  over-all : (P : Run → Type 0) (r : Run) (xs : List A) → ((r : Run) (x : A) → P r → P (g r x)) → P r → P (over g r xs)
+  over-all : (P : Option Run → Type 0) (r : Option Run) (xs : List A) → ((r : Option Run) (x : A) → P r → P (g r x)) → P r → P (over g r xs)
   unfolding over
   over-all P r [] f h = h
   over-all P r (x ∷ xs) f h = over-all P (g r x) xs f (f r x h)
 
   -- what one brings and each keeps
-  over-brings : (P : Run → Type 0) (q : A → Bool) (r : Run) (xs : List A) → ((r : Run) (x : A) → P r → P (g r x)) → ((r : Run) (x : A) → q x ≡ true → P (g r x)) → any q xs ≡ true → P (over g r xs)
+  over-brings : (P : Option Run → Type 0) (q : A → Bool) (r : Option Run) (xs : List A) → ((r : Option Run) (x : A) → P r → P (g r x)) → ((r : Option Run) (x : A) → q x ≡ true → P (g r x)) → any q xs ≡ true → P (over g r xs)
   unfolding over any
   over-brings P q r [] f b e = contrary (any q []) e refl
   over-brings P q r (x ∷ xs) f b e =
@@ -132,19 +128,19 @@ pub record FreeTo (x e : ℕ) (qs : List Range) (z : ℕ) : Type 0 where
   pub upto : z ≤ e
   pub clear : (l : ℕ) → x ≤ l → l ≤ z → any (share (range x l)) qs ≡ false
 
-pub free-sound : (x e : ℕ) (qs : List Range) (z : ℕ) → x ≤ e → free_to e x qs ≡ At z → FreeTo x e qs z
+pub free-sound : (x e : ℕ) (qs : List Range) (z : ℕ) → x ≤ e → free_to e x qs ≡ Some z → FreeTo x e qs z
 unfolding free_to any
 free-sound x e [] z h q = let s : e ≡ z = cc in record { from = omega arith; upto = omega arith; clear = λ l a b. refl }
 free-sound x e (q ∷ qs) z h f =
     by-test (share (range x x) q)
-    (λ t. let g : Nowhere ≡ At z = sym (rw t) ∙ f in let c : ◌≡◌ {A = ℕ} 0 1 = cc in absurd (omega arith))
+    (λ t. let g : None ≡ Some z = sym (rw t) ∙ f in let c : ◌≡◌ {A = ℕ} 0 1 = cc in absurd (omega arith))
     (λ t.
-    let g : free_to (cut_at e x q) x qs ≡ At z = sym (rw t) ∙ f in
+    let g : free_to (cut_at e x q) x qs ≡ Some z = sym (rw t) ∙ f in
     let d = cut_down x e q h t in
     let r = free-sound x (cut_at e x q) qs z d.0 g in
     record { from = r.from; upto = omega (arith, r.upto, d.1); clear = λ l a b. or_neither (share (range x l) q) (any (share (range x l)) qs) (cut-clear x e q l t a (omega (arith, r.upto))) (r.clear l a b) })
 
-pub free-most : (x e : ℕ) (qs : List Range) (l : ℕ) → x ≤ l → l ≤ e → any (share (range x l)) qs ≡ false → (z : ℕ) × (free_to e x qs ≡ At z) × (l ≤ z)
+pub free-most : (x e : ℕ) (qs : List Range) (l : ℕ) → x ≤ l → l ≤ e → any (share (range x l)) qs ≡ false → (z : ℕ) × (free_to e x qs ≡ Some z) × (l ≤ z)
 unfolding free_to any
 free-most x e [] l h k f = (e, refl, k)
 free-most x e (q ∷ qs) l h k f =
@@ -154,16 +150,16 @@ free-most x e (q ∷ qs) l h k f =
 
 -- ---- the run from a start
 
-pub multiple-at : (a u x : ℕ) → lowest_multiple a u ≡ At x → (multiple a x ≡ true) × (x ≤ U64MAX)
+pub multiple-at : (a u x : ℕ) → lowest_multiple a u ≡ Some x → (multiple a x ≡ true) × (x ≤ U64MAX)
 unfolding lowest_multiple
 multiple-at a u x e =
     by-test (multiple a (round_up a u) && ltb (round_up a u) 0x1_0000_0000_0000_0000)
     (λ t.
-    let f : At (round_up a u) ≡ At x = sym (rw t) ∙ e in
+    let f : Some (round_up a u) ≡ Some x = sym (rw t) ∙ e in
     let s : round_up a u ≡ x = cc in
     let l = ltb-true (round_up a u) 0x1_0000_0000_0000_0000 (and_right (multiple a (round_up a u)) (ltb (round_up a u) 0x1_0000_0000_0000_0000) t) in
     (ap (multiple a) (sym s) ∙ and_left (multiple a (round_up a u)) (ltb (round_up a u) 0x1_0000_0000_0000_0000) t, omega arith))
-    (λ t. let f : Nowhere ≡ At x = sym (rw t) ∙ e in let z : ◌≡◌ {A = ℕ} 0 1 = cc in absurd (omega arith))
+    (λ t. let f : None ≡ Some x = sym (rw t) ∙ e in let z : ◌≡◌ {A = ℕ} 0 1 = cc in absurd (omega arith))
 
 ends_of : (x n : ℕ) → x + (n - 1) ≤ U64MAX → passes x n ≡ false
 unfolding passes
@@ -175,17 +171,17 @@ inside-range x l w h k = and_both (leb w.start x) (leb l w.last) (le-leb w.start
 
 module _ (a low : ℕ) (blocked allow : List Range) where
   -- what is told is a run
-  abbrev Sound : Run → Type 0
-  Sound Nothing = Unit {0}
-  Sound (Of x k) = Free a low blocked allow x (k + 1)
+  abbrev Sound : Option Run → Type 0
+  Sound None = Unit {0}
+  Sound (Some x) = Free a low blocked allow x.start (x.more + 1)
 
   -- what lies in the window is permitted
   abbrev Window : Range → Type 0
   Window w = (r : Range) → inside r w ≡ true → permits allow r ≡ true
 
-  up_to-sound : (w : Range) → Window w → (x : ℕ) → multiple a x ≡ true → low ≤ x → x ≤ U64MAX → w.start ≤ x → x ≤ w.last → (s : Spot) → free_to U64MAX x blocked ≡ s → Sound (up_to x w s)
-  up_to-sound w p x m h b i j Nowhere f = tt
-  up_to-sound w p x m h b i j (At z) f =
+  up_to-sound : (w : Range) → Window w → (x : ℕ) → multiple a x ≡ true → low ≤ x → x ≤ U64MAX → w.start ≤ x → x ≤ w.last → (s : Option ℕ) → free_to U64MAX x blocked ≡ s → Sound (up_to x w s)
+  up_to-sound w p x m h b i j None f = tt
+  up_to-sound w p x m h b i j (Some z) f =
       let r = free-sound x U64MAX blocked z b f in
       let k = min z w.last - x in
       let u : x + (k + 1 - 1) ≤ z = omega (arith, r.from) in
@@ -203,9 +199,9 @@ module _ (a low : ℕ) (blocked allow : List Range) where
         };
       }
 
-  run_at-sound : (w : Range) → Window w → (u : ℕ) (s : Spot) → lowest_multiple a u ≡ s → Sound (run_at low blocked w s)
-  run_at-sound w p u Nowhere e = tt
-  run_at-sound w p u (At x) e =
+  run_at-sound : (w : Range) → Window w → (u : ℕ) (s : Option ℕ) → lowest_multiple a u ≡ s → Sound (run_at low blocked w s)
+  run_at-sound w p u None e = tt
+  run_at-sound w p u (Some x) e =
       by-test (leb low x && (leb w.start x && leb x w.last))
       (λ t.
       let m = multiple-at a u x e in
@@ -219,7 +215,7 @@ module _ (a low : ℕ) (blocked allow : List Range) where
   unfolding run_from
   run_sound w p u = run_at-sound w p u (lowest_multiple a u) refl
 
-  window_sound : (w : Range) → Window w → (r : Run) → Sound r → Sound (in_window a low blocked r w)
+  window_sound : (w : Range) → Window w → (r : Option Run) → Sound r → Sound (in_window a low blocked r w)
   unfolding in_window past_range
   window_sound w p r h =
       over-all (past_range a low blocked w) Sound (better (better r (run_from a low blocked w low)) (run_from a low blocked w w.start)) blocked
@@ -238,17 +234,17 @@ windows-each (q ∷ qs) = Each-imp _ _ (q ∷ qs) (λ w h r e. h (inside r) e) (
 longest_sound : (a low : ℕ) (blocked allow : List Range) → Sound a low blocked allow (longest_of a low blocked allow)
 unfolding longest_of
 longest_sound a low blocked allow =
-    over-keeps (in_window a low blocked) (Sound a low blocked allow) (Window a low blocked allow) Nothing (windows allow) (λ r w p h. window_sound a low blocked allow w p r h) (windows-each allow) tt
+    over-keeps (in_window a low blocked) (Sound a low blocked allow) (Window a low blocked allow) None (windows allow) (λ r w p h. window_sound a low blocked allow w p r h) (windows-each allow) tt
 
 -- ---- no run is better
 
-lower-cases : {C : Type 0} (y x : ℕ) (s : Option ℕ) → lower y s ≡ some x → (y ≡ x → C) → (s ≡ some x → C) → C
-lower-cases y x none e f g = let z : y ≡ x = cc in f z
-lower-cases y x (some v) e f g =
+lower-cases : {C : Type 0} (y x : ℕ) (s : Option ℕ) → lower y s ≡ Some x → (y ≡ x → C) → (s ≡ Some x → C) → C
+lower-cases y x None e f g = let z : y ≡ x = cc in f z
+lower-cases y x (Some v) e f g =
     let z : min y v ≡ x = cc in
-    by-test (leb y v) (λ t. let h = leb-true y v t in f (omega arith)) (λ t. let h = leb-false y v t in let k : v ≡ x = omega arith in g (ap some k))
+    by-test (leb y v) (λ t. let h = leb-true y v t in f (omega arith)) (λ t. let h = leb-false y v t in let k : v ≡ x = omega arith in g (ap Some k))
 
-lowest-any : (p q : ℕ → Bool) (xs : List ℕ) (x : ℕ) → lowest_of p xs ≡ some x → q x ≡ true → any q xs ≡ true
+lowest-any : (p q : ℕ → Bool) (xs : List ℕ) (x : ℕ) → lowest_of p xs ≡ Some x → q x ≡ true → any q xs ≡ true
 unfolding lowest_of
 lowest-any p q [] x e t = let z : ◌≡◌ {A = ℕ} 0 1 = cc in absurd (omega arith)
 lowest-any p q (y ∷ xs) x e t =
@@ -274,9 +270,9 @@ module _ (a n low : ℕ) (blocked : List Range) (y : ℕ) where
   unfolding suits place_of
   some-suits w c = go (lowest_of (is_candidate a n low blocked (w ∷ [])) (starts a low blocked (w ∷ []))) refl (place-lowest a n low blocked (w ∷ []))
     where
-      go : (s : Option ℕ) → lowest_of (is_candidate a n low blocked (w ∷ [])) (starts a low blocked (w ∷ [])) ≡ s → Lowest (Candidate a n low blocked (w ∷ [])) (spot_of s) → any (suits w) (starts a low blocked (w ∷ [])) ≡ true
-      go none e l = absurd (l y c)
-      go (some x) e l =
+      go : (s : Option ℕ) → lowest_of (is_candidate a n low blocked (w ∷ [])) (starts a low blocked (w ∷ [])) ≡ s → Lowest (Candidate a n low blocked (w ∷ [])) s → any (suits w) (starts a low blocked (w ∷ [])) ≡ true
+      go None e l = absurd (l y c)
+      go (Some x) e l =
           lowest-any (is_candidate a n low blocked (w ∷ [])) (suits w) (starts a low blocked (w ∷ [])) x e
           (and_both (is_candidate a n low blocked (w ∷ []) x) (leb x y) (candidate_is a n low blocked (w ∷ []) x l.0) (le-leb x y (l.1 y c)))
 
@@ -301,7 +297,7 @@ module _ (a n low : ℕ) (blocked : List Range) (y : ℕ) where
     here-inside : inside (range (round_up a u) (round_up a u + (n - 1))) w ≡ true
     here-inside = rw (← here-span) (permits-only w (span (round_up a u) n) here.permitted)
 
-    here-at : lowest_multiple a u ≡ At (round_up a u)
+    here-at : lowest_multiple a u ≡ Some (round_up a u)
     unfolding lowest_multiple
     here-at = rw (here.exact, lt-ltb (round_up a u) 0x1_0000_0000_0000_0000 (omega (arith, passes-false (round_up a u) n here.ends)))
 
@@ -311,7 +307,7 @@ module _ (a n low : ℕ) (blocked : List Range) (y : ℕ) where
         let j = inside-upto (range (round_up a u) (round_up a u + (n - 1))) w here-inside in
         rw (le-leb low (round_up a u) here.from, le-leb w.start (round_up a u) i, le-leb (round_up a u) w.last (omega arith))
 
-    here-free : (z : ℕ) × (free_to U64MAX (round_up a u) blocked ≡ At z) × (round_up a u + (n - 1) ≤ z)
+    here-free : (z : ℕ) × (free_to U64MAX (round_up a u) blocked ≡ Some z) × (round_up a u + (n - 1) ≤ z)
     here-free =
         free-most (round_up a u) U64MAX blocked (round_up a u + (n - 1)) (omega arith) (passes-false (round_up a u) n here.ends) (rw (← here-span) here.clear)
 
@@ -321,14 +317,14 @@ module _ (a n low : ℕ) (blocked : List Range) (y : ℕ) where
         let j = inside-upto (range (round_up a u) (round_up a u + (n - 1))) w here-inside in
         rw (here-at, here-first, here-free.1) (omega (arith, here-free.2), λ e. here-upto)
 
-  window_keeps : (w : Range) (r : Run) → Beats r y (n - 1) → Beats (in_window a low blocked r w) y (n - 1)
+  window_keeps : (w : Range) (r : Option Run) → Beats r y (n - 1) → Beats (in_window a low blocked r w) y (n - 1)
   unfolding in_window past_range
   window_keeps w r h =
-      over-all (past_range a low blocked w) (λ (s : Run). Beats s y (n - 1)) (better (better r (run_from a low blocked w low)) (run_from a low blocked w w.start)) blocked
+      over-all (past_range a low blocked w) (λ (s : Option Run). Beats s y (n - 1)) (better (better r (run_from a low blocked w low)) (run_from a low blocked w w.start)) blocked
       (λ s q k. better-first s (run_from a low blocked w (q.last + 1)) y (n - 1) k)
       (better-first (better r (run_from a low blocked w low)) (run_from a low blocked w w.start) y (n - 1) (better-first r (run_from a low blocked w low) y (n - 1) h))
 
-  window_brings : (w : Range) (r : Run) → Candidate a n low blocked (w ∷ []) y → Beats (in_window a low blocked r w) y (n - 1)
+  window_brings : (w : Range) (r : Option Run) → Candidate a n low blocked (w ∷ []) y → Beats (in_window a low blocked r w) y (n - 1)
   unfolding in_window past_range
   window_brings w r c =
       by-test (suits w (round_up a low))
@@ -337,16 +333,16 @@ module _ (a n low : ℕ) (blocked : List Range) (y : ℕ) where
       by-test (suits w (round_up a w.start))
       (λ v. all (better-second (better r (run_from a low blocked w low)) (run_from a low blocked w w.start) y (n - 1) (from-beats w w.start v)))
       (λ v.
-      over-brings (past_range a low blocked w) (λ (s : Run). Beats s y (n - 1)) (λ (q : Range). suits w (round_up a (q.last + 1))) (better (better r (run_from a low blocked w low)) (run_from a low blocked w w.start)) blocked
+      over-brings (past_range a low blocked w) (λ (s : Option Run). Beats s y (n - 1)) (λ (q : Range). suits w (round_up a (q.last + 1))) (better (better r (run_from a low blocked w low)) (run_from a low blocked w w.start)) blocked
       keep
       (λ s q e. better-second s (run_from a low blocked w (q.last + 1)) y (n - 1) (from-beats w (q.last + 1) e))
       (past t v)))
     where
-      keep : (s : Run) (q : Range) → Beats s y (n - 1) → Beats (better s (run_from a low blocked w (q.last + 1))) y (n - 1)
+      keep : (s : Option Run) (q : Range) → Beats s y (n - 1) → Beats (better s (run_from a low blocked w (q.last + 1))) y (n - 1)
       keep s q k = better-first s (run_from a low blocked w (q.last + 1)) y (n - 1) k
 
       all : Beats (better (better r (run_from a low blocked w low)) (run_from a low blocked w w.start)) y (n - 1) → Beats (over (past_range a low blocked w) (better (better r (run_from a low blocked w low)) (run_from a low blocked w w.start)) blocked) y (n - 1)
-      all h = over-all (past_range a low blocked w) (λ (s : Run). Beats s y (n - 1)) (better (better r (run_from a low blocked w low)) (run_from a low blocked w w.start)) blocked keep h
+      all h = over-all (past_range a low blocked w) (λ (s : Option Run). Beats s y (n - 1)) (better (better r (run_from a low blocked w low)) (run_from a low blocked w w.start)) blocked keep h
 
       past : suits w (round_up a low) ≡ false → suits w (round_up a w.start) ≡ false → any (λ (q : Range). suits w (round_up a (q.last + 1))) blocked ≡ true
       past t v = sym (any-map (suits w) (λ (q : Range). round_up a (q.last + 1)) blocked) ∙ starts-rest w t v (some-suits w c)
@@ -366,7 +362,7 @@ module _ (a n low : ℕ) (blocked : List Range) (y : ℕ) where
   longest_beats : (allow : List Range) → Candidate a n low blocked allow y → Beats (longest_of a low blocked allow) y (n - 1)
   unfolding longest_of
   longest_beats allow c =
-      over-brings (in_window a low blocked) (λ (s : Run). Beats s y (n - 1)) (inside (span y n)) Nothing (windows allow)
+      over-brings (in_window a low blocked) (λ (s : Option Run). Beats s y (n - 1)) (inside (span y n)) None (windows allow)
       (λ r w h. window_keeps w r h)
       (λ r w e. window_brings w r (in_window-candidate allow c w e))
       (windows-any allow c.permitted)
@@ -376,20 +372,20 @@ module _ (a n low : ℕ) (blocked : List Range) (y : ℕ) where
 pub longest_is : (a low : ℕ) (blocked allow : List Range) → Longest a low blocked allow (longest_of a low blocked allow)
 longest_is a low blocked allow = go (longest_of a low blocked allow) (longest_sound a low blocked allow) (λ y n h. longest_beats a n low blocked y allow h.free)
   where
-    go : (r : Run) → Sound a low blocked allow r → ((y n : ℕ) → Free a low blocked allow y n → Beats r y (n - 1)) → Longest a low blocked allow r
-    go Nothing s b = λ y n h. b y n h
-    go (Of x k) s b = record { run = s; most = λ y n h. omega (arith, h.some, (b y n h).0); least = λ y h. (b y (k + 1) h).1 (omega arith) }
+    go : (r : Option Run) → Sound a low blocked allow r → ((y n : ℕ) → Free a low blocked allow y n → Beats r y (n - 1)) → Longest a low blocked allow r
+    go None s b = λ y n h. b y n h
+    go (Some x) s b = record { run = s; most = λ y n h. omega (arith, h.some, (b y n h).0); least = λ y h. (b y (x.more + 1) h).1 (omega arith) }
 
 module _ (a low : ℕ) (blocked allow : List Range) where
   -- the relation fixes the answer
-  pub longest_unique : (r s : Run) → Longest a low blocked allow r → Longest a low blocked allow s → r ≡ s
-  longest_unique Nothing Nothing h k = refl
-  longest_unique Nothing (Of y l) h k = absurd (h y (l + 1) k.run)
-  longest_unique (Of x k) Nothing h q = absurd (q x (k + 1) h.run)
-  longest_unique (Of x k) (Of y l) h q =
-      let e : k ≡ l = omega (arith, h.most y (l + 1) q.run, q.most x (k + 1) h.run) in
-      let f : x ≡ y = omega (arith, h.least y (subst (λ (i : ℕ). Free a low blocked allow y (i + 1)) (sym e) q.run), q.least x (subst (λ (i : ℕ). Free a low blocked allow x (i + 1)) e h.run)) in
-      cc
+  pub longest_unique : (r s : Option Run) → Longest a low blocked allow r → Longest a low blocked allow s → r ≡ s
+  longest_unique None None h k = refl
+  longest_unique None (Some y) h k = absurd (h y.start (y.more + 1) k.run)
+  longest_unique (Some x) None h q = absurd (q x.start (x.more + 1) h.run)
+  longest_unique (Some x) (Some y) h q =
+      let e : x.more ≡ y.more = omega (arith, h.most y.start (y.more + 1) q.run, q.most x.start (x.more + 1) h.run) in
+      let f : x.start ≡ y.start = omega (arith, h.least y.start (subst (λ (i : ℕ). Free a low blocked allow y.start (i + 1)) (sym e) q.run), q.least x.start (subst (λ (i : ℕ). Free a low blocked allow x.start (i + 1)) e h.run)) in
+      ap (λ (k : ℕ). Some (run x.start k)) e ∙ ap (λ (s : ℕ). Some (run s y.more)) f
 
 -- ---- a shorter run from the same start
 
@@ -425,35 +421,35 @@ module _ (a low : ℕ) (blocked : List Range) (x n m : ℕ) (h : n ≤ m) where
 -- ---- where n bytes have no place, every run is shorter: so the length of the longest fits
 
 module _ (a low : ℕ) (blocked allow : List Range) where
-  pub run-shorter : (n : ℕ) → place_of a n low blocked allow ≡ none → (x m : ℕ) → Free a low blocked allow x m → m < n
+  pub run-shorter : (n : ℕ) → place_of a n low blocked allow ≡ None → (x m : ℕ) → Free a low blocked allow x m → m < n
   run-shorter n e x m r =
       by-test (leb n m)
-      (λ t. absurd (subst (λ (s : Option ℕ). Lowest (Candidate a n low blocked allow) (spot_of s)) e (place-lowest a n low blocked allow) x (shorter a low blocked x n m (leb-true n m t) allow r.free)))
+      (λ t. absurd (subst (λ (s : Option ℕ). Lowest (Candidate a n low blocked allow) s) e (place-lowest a n low blocked allow) x (shorter a low blocked x n m (leb-true n m t) allow r.free)))
       (λ t. leb-false n m t)
 
   -- none is told exactly if no multiple is free
-  pub none_told : longest_of a low blocked allow ≡ Nothing → (x : ℕ) → Candidate a 1 low blocked allow x → ⊥
+  pub none_told : longest_of a low blocked allow ≡ None → (x : ℕ) → Candidate a 1 low blocked allow x → ⊥
   none_told e x c = subst (Longest a low blocked allow) e (longest_is a low blocked allow) x 1 (record { some = omega arith; free = c })
 
-  pub none_free : ((x : ℕ) → Candidate a 1 low blocked allow x → ⊥) → longest_of a low blocked allow ≡ Nothing
-  none_free f = longest_unique a low blocked allow (longest_of a low blocked allow) Nothing (longest_is a low blocked allow) (λ y n r. f y (shorter a low blocked y 1 n r.some allow r.free))
+  pub none_free : ((x : ℕ) → Candidate a 1 low blocked allow x → ⊥) → longest_of a low blocked allow ≡ None
+  none_free f = longest_unique a low blocked allow (longest_of a low blocked allow) None (longest_is a low blocked allow) (λ y n r. f y (shorter a low blocked y 1 n r.some allow r.free))
 
   -- what is told where n bytes have no place: a run of k + 1 < n
-  pub told-shorter : (n x k : ℕ) → place_of a n low blocked allow ≡ none → longest_of a low blocked allow ≡ Of x k → k + 1 < n
+  pub told-shorter : (n x k : ℕ) → place_of a n low blocked allow ≡ None → longest_of a low blocked allow ≡ Some (run x k) → k + 1 < n
   told-shorter n x k p e = let t = subst (Longest a low blocked allow) e (longest_is a low blocked allow) in run-shorter n p x (k + 1) t.run
 
 -- ---- two lists of blocked ranges, one after the other: reserved ranges, then mappings, with no list of both
 
-abbrev pub onward : ℕ → List Range → Spot → Spot
-onward x qs Nowhere = Nowhere
-onward x qs (At z) = free_to z x qs
+abbrev pub onward : ℕ → List Range → Option ℕ → Option ℕ
+onward x qs None = None
+onward x qs (Some z) = free_to z x qs
 
 pub free-append : (e x : ℕ) (qs ps : List Range) → free_to e x (qs ++ ps) ≡ onward x ps (free_to e x qs)
 unfolding free_to
 free-append e x [] ps = refl
 free-append e x (q ∷ qs) ps = by-test (share (range x x) q) (λ t. rw t) (λ t. rw t (free-append (cut_at e x q) x qs ps))
 
-pub over-append : {A : Type 0} (g : Run → A → Run) (r : Run) (xs ys : List A) → over g r (xs ++ ys) ≡ over g (over g r xs) ys
+pub over-append : {A : Type 0} (g : Option Run → A → Option Run) (r : Option Run) (xs ys : List A) → over g r (xs ++ ys) ≡ over g (over g r xs) ys
 unfolding over
 over-append g r [] ys = refl
 over-append g r (x ∷ xs) ys = over-append g (g r x) xs ys

@@ -5,42 +5,36 @@ ghost use Rattle.std.specs.Prelude.{◌≡◌, ◌≤◌, length};
 ghost use Rattle.rangelists.specs.Listed.{listed};
 ghost use Rattle.runs.specs.Runs.{ahead, better, cut_at, free_to};
 
-use alignment::Spot;
 use ranges::Range;
 
 // A run of addresses: its start, and one less than its length, so that all 2^64 addresses are a run too.
 #[derive(Clone, Copy)]
-pub enum Run {
-    Nothing,
-    Of(u64, u64),
+pub struct Run {
+    pub start: u64,
+    pub more: u64,
 }
 
 // Whether the run of k + 1 addresses from x on is longer than that of l + 1 from y on, or as long and starts no higher.
 fn is_ahead(x: u64, k: u64, y: u64, l: u64) -> bool
     ensures { result ≡ ahead x k y l }
 {
-    if l < k {
-        return true;
-    }
-    if k < l {
-        return false;
-    }
-    if y < x {
-        return false;
-    }
-    true
+    l < k || (l == k && x <= y)
 }
 
 // The longer of two, and of equals the lower.
-pub fn better_of(a: Run, b: Run) -> Run
+pub fn better_of(a: Option<Run>, b: Option<Run>) -> Option<Run>
     ensures { result ≡ better a b }
 {
-    match a {
-        Run::Nothing => b,
-        Run::Of(x, k) => match b {
-            Run::Nothing => a,
-            Run::Of(y, l) => { if is_ahead(x, k, y, l) { a } else { b } }
-        },
+    let Some(x) = a else {
+        return b;
+    };
+    let Some(y) = b else {
+        return a;
+    };
+    if is_ahead(x.start, x.more, y.start, y.more) {
+        a
+    } else {
+        b
     }
 }
 
@@ -48,33 +42,29 @@ pub fn better_of(a: Run, b: Run) -> Run
 pub fn cut_at(e: u64, x: u64, q: Range) -> u64
     ensures { result ≡ cut_at e x q }
 {
-    if q.start <= x {
-        return e;
+    if x < q.start && q.start <= q.last {
+        e.min(q.start - 1)
+    } else {
+        e
     }
-    if q.last < q.start {
-        return e;
-    }
-    ranges::lower(e, q.start - 1)
 }
 
 // The last address up to `upto` such that all from x on are in none of the ranges; nowhere, where x is in one.
-pub fn free_to<'a>(starts: &'a [u64], lasts: &'a [u64], n: usize, upto: u64, x: u64) -> Spot
+pub fn free_to<'a>(starts: &'a [u64], lasts: &'a [u64], n: usize, upto: u64, x: u64) -> Option<u64>
     requires { (n ≤ length starts.now) × (n ≤ length lasts.now) }
     ensures { result ≡ free_to upto x (listed n starts.now lasts.now) }
 {
     let here = Range { start: x, last: x };
     let mut e = upto;
-    let mut i: usize = 0;
-    while i < n {
+    for i in 0..n {
         let q = Range {
             start: starts[i],
             last: lasts[i],
         };
         if ranges::shares(here, q) {
-            return Spot::Nowhere;
+            return None;
         }
         e = cut_at(e, x, q);
-        i += 1;
     }
-    Spot::At(e)
+    Some(e)
 }

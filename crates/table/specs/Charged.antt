@@ -1,8 +1,7 @@
 -- The charge of a sound list of records, by the witness of its backings; and the lowest free backing number, which is there whenever a record is free.
-use Rattle.std.specs.Prelude.{ℕ, suc, ◌+◌, ◌≤◌, ◌<◌, ◌≡◌, refl, Bool, false, not, ◌&&◌, ◌||◌, List, [], ◌∷◌, map, eqb}
+use Rattle.std.specs.Prelude.{ℕ, suc, ◌+◌, ◌≤◌, ◌<◌, ◌≡◌, refl, Bool, false, not, ◌&&◌, ◌||◌, List, [], ◌∷◌, map, eqb, Some}
 use Rattle.std.proofs.Common.{sym, ap, subst, ◌∙◌, arith, eqb-true, eq-eqb, ne_eqb}
 use Rattle.std.proofs.Math.Bool.{true}
-use Rattle.std.proofs.Math.Option.{some}
 use Rattle.std.proofs.Math.Numerals.{add-one}
 use Rattle.std.proofs.Math.ListN as ListN
 use Rattle.lists.specs.Tests.{by-test, only_if, only_if-mono, only_if-true, only_if-false, and_right}
@@ -94,12 +93,12 @@ release-charge os info ms ok agree p q =
 
 -- ---- the lowest free backing number: each used record has one number, so 127 of them leave one of 128
 
-free-left : (ms : List Mapping) (i : ℕ) → free_mapping ms ≡ some i → count_of used ms < ListN.length ms
+free-left : (ms : List Mapping) (i : ℕ) → free_mapping ms ≡ Some i → count_of used ms < ListN.length ms
 unfolding free_mapping
 free-left ms i e =
     let lt = seek-some_lt (λ m. not (used m)) 0 ms i e in
     let zero_plus : i ≡ 0 + i = omega arith in
-    let at = seek-some_at (λ m. not (used m)) 0 ms zero_mapping i (e ∙ ap some zero_plus) in
+    let at = seek-some_at (λ m. not (used m)) 0 ms zero_mapping i (e ∙ ap Some zero_plus) in
     omega (arith, count_of-not used ms, count_of-at (λ m. not (used m)) ms zero_mapping i (omega (arith, lt.1)) at)
 
 at_most : (m : Mapping) → sum_below (λ k. only_if (eqb m.backing (k + 1)) 1) 128 ≤ 1
@@ -121,8 +120,8 @@ exchange os ms ok =
     rw (← sum_of-sum_below (λ (m : Mapping) k. only_if (backs (k + 1) m) 1) ms 128)
     (sum_of-le (λ m. sum_below (λ k. only_if (backs (k + 1) m) 1) 128) (λ m. only_if (used m) 1) ms (Each-imp (λ m. record_ok os m ≡ true) (λ m. sum_below (λ k. only_if (backs (k + 1) m) 1) 128 ≤ only_if (used m) 1) ms (one_number os) ok))
 
-pub free-backing : (os : List Object) (ms : List Mapping) (i : ℕ) → ListN.length ms ≡ 128 → Each (λ m. record_ok os m ≡ true) ms → free_mapping ms ≡ some i
-    → (b : ℕ) × (free_backing ms ≡ some b)
+pub free-backing : (os : List Object) (ms : List Mapping) (i : ℕ) → ListN.length ms ≡ 128 → Each (λ m. record_ok os m ≡ true) ms → free_mapping ms ≡ Some i
+    → (b : ℕ) × (free_backing ms ≡ Some b)
 unfolding free_backing
 free-backing os ms i n ok e =
     let few : sum_below (λ k. count_of (backs (k + 1)) ms) 128 < 128 = omega (arith, exchanged, free-left ms i e) in

@@ -13,58 +13,32 @@ use rules_table::{Attachment, Kind, Mapping};
 pub fn is_free(k: Kind) -> bool
     ensures { result ≡ is_free k }
 {
-    match k {
-        Kind::Free => true,
-        Kind::Space => false,
-        Kind::Device(_) => false,
-    }
+    matches!(k, Kind::Free)
 }
 
 pub fn is_space(k: Kind) -> bool
     ensures { result ≡ is_space k }
 {
-    match k {
-        Kind::Free => false,
-        Kind::Space => true,
-        Kind::Device(_) => false,
-    }
+    matches!(k, Kind::Space)
 }
 
 pub fn is_device(k: Kind) -> bool
     ensures { result ≡ is_device k }
 {
-    match k {
-        Kind::Free => false,
-        Kind::Space => false,
-        Kind::Device(_) => true,
-    }
+    matches!(k, Kind::Device(_))
 }
 
 pub fn is_attached(k: Kind) -> bool
     ensures { result ≡ is_attached k }
 {
-    match k {
-        Kind::Free => false,
-        Kind::Space => false,
-        Kind::Device(a) => match a {
-            Attachment::Loose => false,
-            Attachment::Attached(_) => true,
-        },
-    }
+    matches!(k, Kind::Device(Attachment::Attached(_)))
 }
 
 // Whether it is a device that is attached to space s.
 pub fn attached_to(k: Kind, s: u32) -> bool
     ensures { result ≡ attached_to s k }
 {
-    match k {
-        Kind::Free => false,
-        Kind::Space => false,
-        Kind::Device(a) => match a {
-            Attachment::Loose => false,
-            Attachment::Attached(h) => h == s,
-        },
-    }
+    matches!(k, Kind::Device(Attachment::Attached(h)) if h == s)
 }
 
 // The space that a device is attached to, 0 for any other object.
@@ -72,12 +46,8 @@ pub fn home_of(k: Kind) -> u32
     ensures { result ≡ home_of k }
 {
     match k {
-        Kind::Free => 0,
-        Kind::Space => 0,
-        Kind::Device(a) => match a {
-            Attachment::Loose => 0,
-            Attachment::Attached(h) => h,
-        },
+        Kind::Device(Attachment::Attached(h)) => h,
+        _ => 0,
     }
 }
 
@@ -85,22 +55,17 @@ pub fn home_of(k: Kind) -> u32
 pub fn is_touched(m: Mapping, s: u32, r: Range) -> bool
     ensures { result ≡ touches s r m }
 {
-    let q = ranges::span_of(m.address, m.length);
-    checks::both(m.space == s, ranges::shares(r, q))
+    m.space == s && ranges::shares(r, ranges::span_of(m.address, m.length))
 }
 
 // Whether it is a mapping of space s and lies wholly inside r. Most are told by their space or their start, before the last address is reckoned.
 pub fn is_within(m: Mapping, s: u32, r: Range) -> bool
     ensures { result ≡ within s r m }
 {
-    if m.space != s {
+    if m.space != s || m.address < r.start {
         return false;
     }
-    if m.address < r.start {
-        return false;
-    }
-    let q = ranges::span_of(m.address, m.length);
-    ranges::is_inside(q, r)
+    ranges::is_inside(ranges::span_of(m.address, m.length), r)
 }
 
 pub fn can_write(m: Mapping) -> bool
@@ -127,25 +92,25 @@ pub fn ranges_touch<'a>(
     requires { (n ≤ length starts.now) × (n ≤ length lasts.now) × (m ≤ length froms.now) × (m ≤ length ends.now) }
     ensures { result ≡ lists_touch (listed n starts.now lasts.now) (listed m froms.now ends.now) }
 {
-    let mut i: usize = 0;
-    while i < n {
+    (0..n).any(|i| {
         let r = Range {
             start: starts[i],
             last: lasts[i],
         };
-        if rangelists::is_found(rangelists::touched_from(froms, ends, m, 0, r)) {
-            return true;
-        }
-        i += 1;
-    }
-    false
+        rangelists::touched_from(froms, ends, m, 0, r).is_some()
+    })
 }
 
 // Whether some reserved range shares an address with some range of an allow list.
 pub fn lists_touch(l: Reserved, allow: Allowed) -> bool
     ensures { result ≡ lists_touch (reserved l) (allowed allow) }
 {
-    let n = rangelists::used(l.count, 4);
-    let m = rangelists::used(allow.count, 8);
-    ranges_touch(&l.starts, &l.lasts, n, &allow.starts, &allow.lasts, m)
+    ranges_touch(
+        &l.starts,
+        &l.lasts,
+        rangelists::used(l.count, 4),
+        &allow.starts,
+        &allow.lasts,
+        rangelists::used(allow.count, 8),
+    )
 }

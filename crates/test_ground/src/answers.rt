@@ -1,12 +1,7 @@
 // One line for each record, by its operation.
-use alignment::Spot;
-use program_lines::{hex, number, text, truth, word};
-use rangelists::{Allowed, Found, Reserved};
+use program_lines::{hex, number, signed, text, truth, word};
+use rangelists::{Allowed, Reserved};
 use ranges::Range;
-use rules_calls::Opening;
-
-// The number of standard output.
-const STDOUT_FILENO: i32 = 1;
 
 pub fn answer(operation: u32, body: &[u8]) {
     match operation {
@@ -30,17 +25,17 @@ pub fn answer(operation: u32, body: &[u8]) {
 
 // The lowest 32 bits of such a word.
 fn half(body: &[u8], k: usize) -> u32 {
-    (word(body, k) % 4294967296) as u32
+    (word(body, k) & 0xFFFF_FFFF) as u32
+}
+
+// So many words from place k on.
+fn words<const N: usize>(body: &[u8], k: usize) -> [u64; N] {
+    std::array::from_fn(|i| word(body, k.saturating_add(i)))
 }
 
 fn range_at(body: &[u8], k: usize) -> Range {
-    if 63 < k {
-        return Range { start: 0, last: 0 };
-    }
-    Range {
-        start: word(body, k),
-        last: word(body, k + 1),
-    }
+    let [start, last]: [u64; 2] = words(body, k);
+    Range { start, last }
 }
 
 fn share(body: &[u8]) {
@@ -77,8 +72,8 @@ fn multiple(body: &[u8]) {
     let spot = alignment::lowest_multiple(word(body, 0), word(body, 1));
     text(b"multiple");
     match spot {
-        Spot::Nowhere => text(b" none"),
-        Spot::At(x) => number(x),
+        None => text(b" none"),
+        Some(x) => number(x),
     }
 }
 
@@ -87,10 +82,10 @@ fn page(body: &[u8]) {
     number(alignment::smallest_page(word(body, 0)));
 }
 
-fn place(f: Found) {
+fn place(f: Option<usize>) {
     match f {
-        Found::Nothing => text(b" none"),
-        Found::At(i) => number(i as u64),
+        None => text(b" none"),
+        Some(i) => number(i as u64),
     }
 }
 
@@ -98,8 +93,8 @@ fn place(f: Found) {
 fn reserved(body: &[u8]) {
     let l = Reserved {
         count: half(body, 2),
-        starts: [word(body, 3), word(body, 4), word(body, 5), word(body, 6)],
-        lasts: [word(body, 7), word(body, 8), word(body, 9), word(body, 10)],
+        starts: words(body, 3),
+        lasts: words(body, 7),
     };
     text(b"reserved");
     truth(rangelists::reserved_valid(l));
@@ -110,26 +105,8 @@ fn reserved(body: &[u8]) {
 fn allowed(body: &[u8]) {
     let l = Allowed {
         count: half(body, 2),
-        starts: [
-            word(body, 3),
-            word(body, 4),
-            word(body, 5),
-            word(body, 6),
-            word(body, 7),
-            word(body, 8),
-            word(body, 9),
-            word(body, 10),
-        ],
-        lasts: [
-            word(body, 11),
-            word(body, 12),
-            word(body, 13),
-            word(body, 14),
-            word(body, 15),
-            word(body, 16),
-            word(body, 17),
-            word(body, 18),
-        ],
+        starts: words(body, 3),
+        lasts: words(body, 11),
     };
     text(b"allowed");
     truth(rangelists::allowed_valid(l));
@@ -137,23 +114,14 @@ fn allowed(body: &[u8]) {
     place(rangelists::allowed_touched(l, range_at(body, 0)));
 }
 
-// A signed result, by its sign and the errno.
-fn result(errno: u8) {
-    text(b" ");
-    if opening::signed_result(errno) < 0 {
-        text(b"-");
-    }
-    io::print_decimal(STDOUT_FILENO, errno as u64);
-}
-
-// A u32 request, then the command bytes as lent.
+// A u32 request, then the command bytes as lent: the errno as a result.
 fn open(body: &[u8]) {
     text(b"open");
-    if body.len() < 4 {
+    let Some((request, cmd)) = body.split_first_chunk() else {
         return;
-    }
-    let request = wire::read32(body, 0);
-    result(opening::opening_errno(opening::open(request, &body[4..])));
+    };
+    let request = u32::from_le_bytes(*request);
+    signed(opening::signed_result(opening::opening_errno(opening::open(request, cmd))));
 }
 
 fn flags(body: &[u8]) {
@@ -173,15 +141,12 @@ fn bytes(body: &[u8]) {
     text(b"bytes ");
     hex(&b);
     number(wire::read64(&b, 1));
-    number(wire::read32(&b, 11) as u64);
+    number(u64::from(wire::read32(&b, 11)));
 }
 
-// Bind's result for an id, by its sign and the number.
+// Bind's result for an id.
 fn id(body: &[u8]) {
-    let n = (word(body, 0) % 256) as u8;
-    text(b"id ");
-    if opening::id_result(n) < 0 {
-        text(b"-");
-    }
-    io::print_decimal(STDOUT_FILENO, n as u64);
+    let n = (word(body, 0) & 0xFF) as u8;
+    text(b"id");
+    signed(opening::id_result(n));
 }

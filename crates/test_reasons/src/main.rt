@@ -2,7 +2,5 @@
 #![tactic(auto)]
 
 fn main() {
-    let mut input = io::large_buffer();
-    let n = io::read_full(0, &mut input);
-    test_replay::run(&input[..n]);
+    test_replay::run();
 }

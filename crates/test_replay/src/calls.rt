@@ -1,8 +1,8 @@
 // One call for each record, by its operation: its name, its result, what it wrote.
-use crate::reading::{half, reserved};
-use crate::replies::{bytes, result};
+use crate::reading::reserved;
+use crate::replies::bytes;
 use crate::{reasons, stored};
-use program_lines::{number, text, word};
+use program_lines::{half, number, signed, text, word};
 use rules_table::Table;
 
 pub fn answer(t: Table, operation: u32, body: &[u8]) -> Table {
@@ -30,7 +30,7 @@ pub fn unknown(t: Table) -> Table {
 fn fresh(body: &[u8]) -> Table {
     let a = iommufd::fresh(word(body, 0));
     text(b"fresh");
-    result(a.result);
+    signed(a.result);
     a.table
 }
 
@@ -38,21 +38,21 @@ fn bind(t: Table, body: &[u8]) -> Table {
     let l = reserved(body, half(body, 2), 2);
     let a = iommufd::bind(t, word(body, 0), l);
     text(b"bind");
-    result(a.result);
+    signed(a.result);
     a.table
 }
 
 fn attach(t: Table, body: &[u8]) -> Table {
     let a = iommufd::attach(t, half(body, 0), half(body, 1));
     text(b"attach");
-    result(a.result);
+    signed(a.result);
     a.table
 }
 
 fn detach(t: Table, body: &[u8]) -> Table {
     let a = iommufd::detach(t, half(body, 0));
     text(b"detach");
-    result(a.result);
+    signed(a.result);
     a.table
 }
 
@@ -60,20 +60,18 @@ fn reach(t: Table, body: &[u8]) -> Table {
     let write = half(body, 1) != 0;
     let r = iommufd::reach(t, half(body, 0), word(body, 1), word(body, 2), write);
     text(b"reach");
-    result(r.result);
+    signed(r.result);
     number(r.address);
     t
 }
 
 // The body is the command. It is changed, so it is copied.
 fn command(t: Table, operation: u32, body: &[u8]) -> Table {
-    let mut cmd = [0u8; 64];
-    let n = body.len();
-    if 64 < n {
-        return unknown(t);
+    let mut buffer = [0u8; 64];
+    match copied(body, &mut buffer) {
+        Some(cmd) => command_on(t, operation, cmd),
+        None => unknown(t),
     }
-    fill(body, &mut cmd);
-    command_on(t, operation, &mut cmd[..n])
 }
 
 fn command_on(t: Table, operation: u32, cmd: &mut [u8]) -> Table {
@@ -90,73 +88,59 @@ fn command_on(t: Table, operation: u32, cmd: &mut [u8]) -> Table {
 
 // The result and the command after it.
 fn replied(t: Table, request: u32, name: &[u8], cmd: &mut [u8]) -> Table {
-    let mut none = [0u8; 1];
-    let a = iommufd::call(t, request, cmd, &mut none[..0]);
+    let a = iommufd::call(t, request, cmd, &mut []);
     text(name);
-    result(a.result);
+    signed(a.result);
     bytes(cmd);
     a.table
 }
 
 fn destroy(t: Table, cmd: &mut [u8]) -> Table {
-    let mut none = [0u8; 1];
-    let a = iommufd::call(t, 0x3B80, cmd, &mut none[..0]);
+    let a = iommufd::call(t, 0x3B80, cmd, &mut []);
     text(b"destroy");
-    result(a.result);
+    signed(a.result);
     a.table
 }
 
 // A u64 count of the command's bytes, the command, then the range area. Both are changed, so both are copied.
 fn with_area(t: Table, operation: u32, body: &[u8]) -> Table {
+    let Some((count, rest)) = body.split_first_chunk() else {
+        return unknown(t);
+    };
+    let Some((head, tail)) = rest.split_at_checked(u64::from_le_bytes(*count) as usize) else {
+        return unknown(t);
+    };
     let mut cmd = [0u8; 64];
     let mut area = [0u8; 2048];
-    if body.len() < 8 {
+    let (Some(cmd), Some(area)) = (copied(head, &mut cmd), copied(tail, &mut area)) else {
         return unknown(t);
-    }
-    let n = wire::read64(body, 0) as usize;
-    if body.len() - 8 < n {
-        return unknown(t);
-    }
-    let end = 8 + n;
-    let m = body.len() - end;
-    if 64 < n {
-        return unknown(t);
-    }
-    if 2048 < m {
-        return unknown(t);
-    }
-    fill(&body[8..end], &mut cmd);
-    fill(&body[end..], &mut area);
+    };
     if operation == 8 {
-        return allow(t, &mut cmd[..n], &mut area[..m]);
+        allow(t, cmd, area)
+    } else {
+        ranges(t, cmd, area)
     }
-    ranges(t, &mut cmd[..n], &mut area[..m])
 }
 
 fn allow(t: Table, cmd: &mut [u8], area: &mut [u8]) -> Table {
     let a = iommufd::call(t, 0x3B82, cmd, area);
     text(b"allow");
-    result(a.result);
+    signed(a.result);
     a.table
 }
 
 fn ranges(t: Table, cmd: &mut [u8], area: &mut [u8]) -> Table {
     let a = iommufd::call(t, 0x3B84, cmd, area);
     text(b"ranges");
-    result(a.result);
+    signed(a.result);
     bytes(cmd);
     bytes(area);
     a.table
 }
 
-// The bytes that both have place for.
-fn fill(from: &[u8], to: &mut [u8]) {
-    let mut i: usize = 0;
-    while i < to.len() {
-        if from.len() <= i {
-            return;
-        }
-        to[i] = from[i];
-        i += 1;
-    }
+// A copy in a buffer, if that has the room.
+fn copied<'a>(bytes: &[u8], buffer: &'a mut [u8]) -> Option<&'a mut [u8]> {
+    let copy = buffer.get_mut(..bytes.len())?;
+    copy.copy_from_slice(bytes);
+    Some(copy)
 }

@@ -1,6 +1,7 @@
 // Replays a stored list of calls and edits on one table, a line each. The scripts in tests/ make the lists and work out the lines on their own.
-// A record is a u32 operation, a u32 count of bytes and so many bytes.
 #![tactic(auto)]
+
+use program_lines::{STDIN_FILENO, record};
 
 mod calls;
 mod reading;
@@ -9,25 +10,19 @@ mod replies;
 mod stored;
 mod sums;
 
+// Replays the records of standard input.
+pub fn run() {
+    let mut input = io::large_buffer();
+    let n = io::read_full(STDIN_FILENO, &mut input);
+    replay(&input[..n]);
+}
+
 // Answers each record up to the end, or up to one that is cut. The table of one record is the next one's.
-pub fn run(s: &[u8]) {
-    let first = edits::fresh(0);
-    let mut t = first.table;
-    let mut at: usize = 0;
-    while at < s.len() {
-        if s.len() - at < 8 {
-            return;
-        }
-        let operation = wire::read32(s, at);
-        let n = wire::read32(s, at + 4) as usize;
-        let from = at + 8;
-        if s.len() - from < n {
-            return;
-        }
-        let to = from + n;
-        let next = calls::answer(t, operation, &s[from..to]);
-        replies::ending(next);
-        t = next;
-        at = to;
+fn replay(mut s: &[u8]) {
+    let mut t = edits::fresh(0).table;
+    while let Some((operation, body, rest)) = record(s) {
+        t = calls::answer(t, operation, body);
+        replies::ending(t);
+        s = rest;
     }
 }

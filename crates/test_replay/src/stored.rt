@@ -1,6 +1,6 @@
 // Edits of the table past the calls: records stored as they are, for bad tables and for tables with mappings.
-use crate::reading::{allowed, half, reserved};
-use program_lines::{text, word};
+use crate::reading::{allowed, reserved};
+use program_lines::{half, text, word};
 use rules_table::{Attachment, Kind, Mapping, Object, Table};
 
 // The numbers of a mapping at a place: six u32, then three u64.
@@ -16,11 +16,10 @@ pub fn mapping(t: Table, body: &[u8]) -> Table {
         memory: word(body, 5),
     };
     text(b"mapping");
-    if 128 <= i {
-        return t;
-    }
     let mut next = t;
-    next.mappings[i] = m;
+    if let Some(place) = next.mappings.get_mut(i) {
+        *place = m;
+    }
     next
 }
 
@@ -47,8 +46,9 @@ fn kind_of(n: u32, space: u32) -> Kind {
 }
 
 pub fn limit(t: Table, body: &[u8]) -> Table {
-    let mut next = t;
-    next.limit = word(body, 0);
     text(b"limit");
-    next
+    Table {
+        limit: word(body, 0),
+        ..t
+    }
 }

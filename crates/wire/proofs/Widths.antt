@@ -1,10 +1,20 @@
 -- Fields of 4 and 8 bytes, as the code reads and writes them.
-use Prim.Native.Nat.{ℕ, ◌+◌, ◌*◌, ◌/◌, ◌%◌, ◌^◌, ◌<◌}
-use mathlib.Core.Path.{◌≡◌}
-use mathlib.Core.List.{List}
+use Prim.Native.Nat.{ℕ, zero, suc, ◌+◌, ◌≤◌, ◌*◌, ◌/◌, ◌%◌, ◌<◌}
+use mathlib.Core.Path.{◌≡◌, refl, sym, ap, ◌∙◌}
+use mathlib.Core.List.{List, [], ◌∷◌}
 use native.Mathlib.Omega.{arith}
-use lib.ListN.{get_or, set}
-use Rattle.wire.specs.Fields.{field, put, put-mod}
+use mathlib.Core.Bool.{Bool, true}
+use lib.Dec.{eqb}
+use lib.ListN.{length, get_or, set}
+use lib.Seq.{paste, paste-zero, paste-suc}
+use borrow.Rule.Slice.PartMut.{put_mid}
+use Rattle.std.proofs.Common.{add-zero, eq-eqb}
+use borrow.Author.Tests.{eqb-true}
+use Rattle.std.specs.Prelude.{IsTrue, ◌↔◌}
+use Rattle.std.proofs.lemmas.Slice.{put_mid-paste}
+use Rattle.lists.specs.Tests.{same_test, and_both}
+use Rattle.lists.specs.Search.{all, all-at}
+use Rattle.wire.specs.Fields.{field, put, zeros}
 
 module _ (bs : List ℕ) (at : ℕ) where
   third : at + 1 + 1 ≡ at + 2
@@ -16,6 +26,15 @@ module _ (bs : List ℕ) (at : ℕ) where
   fifth : at + 1 + 1 + 1 + 1 ≡ at + 4
   fifth = omega arith
 
+  sixth : at + 1 + 1 + 1 + 1 + 1 ≡ at + 5
+  sixth = omega arith
+
+  seventh : at + 1 + 1 + 1 + 1 + 1 + 1 ≡ at + 6
+  seventh = omega arith
+
+  eighth : at + 1 + 1 + 1 + 1 + 1 + 1 + 1 ≡ at + 7
+  eighth = omega arith
+
   pub read-4 : get_or bs at 0 + 256 * (get_or bs (at + 1) 0 + 256 * (get_or bs (at + 2) 0 + 256 * get_or bs (at + 3) 0)) ≡ field 4 bs at
   unfolding field
   read-4 = rw (← third, ← fourth) (omega arith)
@@ -24,16 +43,46 @@ module _ (bs : List ℕ) (at : ℕ) where
   unfolding field
   read-8 = rw (← fifth) (omega arith)
 
-  pub write-4 : (v : ℕ) → v < 2 ^ 32 → set (set (set (set bs at (v % 256)) (at + 1) (v / 256 % 256)) (at + 2) (v / 65536 % 256)) (at + 3) (v / 16777216) ≡ put 4 bs at v
-  unfolding put
-  write-4 v h =
-      let b : v / 65536 % 256 ≡ v / 256 / 256 % 256 = omega arith in
-      let d : v / 16777216 ≡ v / 256 / 256 / 256 % 256 = omega arith in
-      rw (b, d, ← third, ← fourth)
+  -- the first j bytes of zs, stored one by one
+  filled : List ℕ → ℕ → List ℕ
+  filled zs zero = bs
+  filled zs (suc j) = set (filled zs j) (at + j) (get_or zs j 0)
 
-  halves : (v : ℕ) → put 4 (put 4 bs at v) (at + 4) (v / 4294967296) ≡ put 8 bs at v
-  unfolding put
-  halves v = let f : v / 4294967296 ≡ v / 256 / 256 / 256 / 256 = omega arith in rw (f, ← fifth)
+  filled-paste : (zs : List ℕ) (j : ℕ) → j ≤ length zs → at + length zs ≤ length bs → filled zs j ≡ paste bs at zs j
+  unfolding filled
+  filled-paste zs zero h k = paste-zero bs at zs
+  filled-paste zs (suc j) h k = ap (λ (l : List ℕ). set l (at + j) (get_or zs j 0)) (filled-paste zs j (omega arith) k) ∙ paste-suc bs at zs j 0 (omega arith) (omega arith)
 
-  pub write-8 : (v : ℕ) → put 4 (put 4 bs at (v % 4294967296)) (at + 4) (v / 4294967296) ≡ put 8 bs at v
-  write-8 v = rw (put-mod 4 bs at v) (halves v)
+  -- the bytes of a number, copied as one part
+  module _ (n : ℕ) (ys : List ℕ) where
+    pub write-4 : (v : ℕ) → at + 4 ≤ length bs → n ≡ 4 → ys ≡ (v % 256 ∷ v / 256 % 256 ∷ v / 65536 % 256 ∷ v / 16777216 % 256 ∷ []) → put_mid at n bs ys ≡ put 4 bs at v
+    unfolding put filled
+    write-4 v h s e =
+        let zs : List ℕ = v % 256 ∷ v / 256 % 256 ∷ v / 65536 % 256 ∷ v / 16777216 % 256 ∷ [] in
+        let b : v / 65536 % 256 ≡ v / 256 / 256 % 256 = omega arith in
+        let d : v / 16777216 % 256 ≡ v / 256 / 256 / 256 % 256 = omega arith in
+        put_mid-paste at n bs ys zs 4 e (sym s) refl ∙ sym (filled-paste zs 4 (omega arith) h) ∙ rw (add-zero, b, d, ← third, ← fourth)
+
+    pub write-8 : (v : ℕ) → at + 8 ≤ length bs → n ≡ 8
+        → ys ≡ (v % 256 ∷ v / 256 % 256 ∷ v / 65536 % 256 ∷ v / 16777216 % 256 ∷ v / 4294967296 % 256 ∷ v / 1099511627776 % 256 ∷ v / 281474976710656 % 256 ∷ v / 72057594037927936 % 256 ∷ [])
+        → put_mid at n bs ys ≡ put 8 bs at v
+    unfolding put filled
+    write-8 v h s e =
+        let zs : List ℕ = v % 256 ∷ v / 256 % 256 ∷ v / 65536 % 256 ∷ v / 16777216 % 256 ∷ v / 4294967296 % 256 ∷ v / 1099511627776 % 256 ∷ v / 281474976710656 % 256 ∷ v / 72057594037927936 % 256 ∷ [] in
+        let d2 : v / 65536 ≡ v / 256 / 256 = omega arith in
+        let d3 : v / 16777216 ≡ v / 65536 / 256 = omega arith in
+        let d4 : v / 4294967296 ≡ v / 16777216 / 256 = omega arith in
+        let d5 : v / 1099511627776 ≡ v / 4294967296 / 256 = omega arith in
+        let d6 : v / 281474976710656 ≡ v / 1099511627776 / 256 = omega arith in
+        let d7 : v / 72057594037927936 ≡ v / 281474976710656 / 256 = omega arith in
+        put_mid-paste at n bs ys zs 8 e (sym s) refl ∙ sym (filled-paste zs 8 (omega arith) h) ∙ rw (add-zero, d7, d6, d5, d4, d3, d2, ← third, ← fourth, ← fifth, ← sixth, ← seventh, ← eighth)
+
+-- a scan told byte by byte
+zeros-each : (bs : List ℕ) → ((k : ℕ) → k < length bs → get_or bs k 0 ≡ 0) → zeros bs ≡ true
+unfolding zeros all
+zeros-each [] f = refl
+zeros-each (x ∷ xs) f = and_both (eqb x 0) (zeros xs) (eq-eqb x 0 (f 0 (omega arith))) (zeros-each xs (λ k h. f (suc k) (omega arith)))
+
+pub zeros-told : (bs : List ℕ) (b : Bool) → (IsTrue b ↔ ((k : ℕ) → k < length bs → get_or bs k 0 ≡ 0)) → b ≡ zeros bs
+unfolding zeros
+zeros-told bs b h = same_test b (zeros bs) (λ t. zeros-each bs (h.0 t)) (λ t. h.1 (λ k g. eqb-true (get_or bs k 0) 0 (all-at (λ b. eqb b 0) bs 0 t k g)))

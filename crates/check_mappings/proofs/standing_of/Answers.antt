@@ -1,5 +1,5 @@
-use Rattle.std.proofs.Common.{arith}
-use Rattle.layout_mappings.specs.Words.{records_of}
+use Rattle.std.proofs.Common.{ap, ◌∙◌, arith}
+use Rattle.layout_mappings.specs.Words.{records_of, record_at}
 use Rattle.check_mappings.proofs.Straying.{leader-inside, stray_none, stray_some, added-first, added-marked, mark_first, mark_kept}
 use Rattle.check_mappings.proofs.standing_of.Goals as goal
 
@@ -10,4 +10,4 @@ pub record-leader-requires : goal.record-leader-requires
 record-leader-requires c = let a = c.args in omega (arith, leader-inside (records_of a.ws.now) a.mark a.i a.m _ c.if-mark-eq0.false c.requires.0)
 
 pub returns : goal.returns
-returns c = let a = c.args in ((λ e. stray_some (records_of a.ws.now) a.mark a.i a.m c.if-mark-eq0.false _ _ c.record-leader.ensures c.differs.ensures), added-marked a.mark a.i a.m _ c.if-mark-eq0.false (omega arith), omega arith, mark_kept a.mark a.i a.m c.if-mark-eq0.false)
+returns c = let a = c.args in ((λ e. stray_some (records_of a.ws.now) a.mark a.i a.m c.if-mark-eq0.false _ _ (c.record-leader.ensures ∙ ap (record_at a.ws.now) c.from.ensures) c.differs.ensures), added-marked a.mark a.i a.m _ c.if-mark-eq0.false (omega arith), omega arith, mark_kept a.mark a.i a.m c.if-mark-eq0.false)

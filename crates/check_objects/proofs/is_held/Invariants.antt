@@ -1,4 +1,4 @@
-use Prim.Native.Nat.{◌-◌, ◌≤◌}
+use Prim.Native.Nat.{◌≤◌}
 use mathlib.Core.Path.{◌≡◌}
 use lib.ListN.{drop}
 use Rattle.lists.specs.Search.{any}
@@ -9,6 +9,3 @@ use Rattle.check_objects.proofs.is_held.Given as goal
 
 abbrev pub invariant-loop-i : goal.invariant-loop-i
 invariant-loop-i l = (l.i ≤ 32) × (any (λ (o : Object). attached_to l.s o.kind) (drop l.i (objects_in l.h)) ≡ any (λ (o : Object). attached_to l.s o.kind) (objects_in l.h))
-
-abbrev pub decreases-loop-i : goal.decreases-loop-i
-decreases-loop-i l = 32 - l.i

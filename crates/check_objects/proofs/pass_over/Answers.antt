@@ -30,7 +30,7 @@ loop-i-preserved c = let a = c.args in
     let l = c.loop-i in
     passing-on (objects_in a.h.now) l.i _ _ l.invariant _ c.judge-t.ensures
     (omega (arith, c.loop-i-test.true))
-    (not-false _ c.if-not-t.false) _ _ (omega (arith, c.higher-q.ensures))
+    (not-false _ c.if-not-t.false) _ _ (omega (arith, c.max-page.ensures))
     c.free_after-here.ensures _ _ _ _ c.next_object-next.ensures c.free_to-free-in-loop-i.ensures (omega arith) (omega arith)
 
 pub shape_of-pages : goal.shape_of-pages

@@ -1,4 +1,3 @@
-use Prim.Native.Nat.{◌-◌, ◌≤◌}
 use mathlib.Core.Path.{◌≡◌}
 use lib.ListN.{drop}
 use Rattle.lists.specs.Search.{all}
@@ -10,7 +9,4 @@ use Rattle.check_reserved.specs.Clear.{clear_by}
 use Rattle.check_reserved.proofs.is_clear.Given as goal
 
 abbrev pub invariant-loop-i : goal.invariant-loop-i
-invariant-loop-i l = (l.i ≤ 32) × (clear_by (λ s. reserved_of (drop l.i (objects_in l.h)) s) (records_of l.ws) ≡ all (λ m. when_used (clear_of (reserved_of (objects_in l.h) m.space)) m) (records_of l.ws))
-
-abbrev pub decreases-loop-i : goal.decreases-loop-i
-decreases-loop-i l = 32 - l.i
+invariant-loop-i l = clear_by (λ s. reserved_of (drop l.i (objects_in l.h)) s) (records_of l.ws) ≡ all (λ m. when_used (clear_of (reserved_of (objects_in l.h) m.space)) m) (records_of l.ws)

@@ -6,4 +6,4 @@ pub returns-in_default : goal.returns-in_default
 returns-in_default c = put-none _ _ _ c.in_default.is c.refusal.ensures
 
 pub returns : goal.returns
-returns c = put-at _ _ _ _ _ c.in-At.is c.free_object-object.ensures c.acceptance.ensures
+returns c = put-at _ _ _ _ _ c.in-Some.is c.free_object-object.ensures c.acceptance.ensures

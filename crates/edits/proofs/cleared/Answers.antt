@@ -14,7 +14,7 @@ pub bounds-ms-k : goal.bounds-ms-k
 bounds-ms-k c = search (rules, length-mapped)
 
 pub loop-k-preserved : goal.loop-k-preserved
-loop-k-preserved c = let l = c.loop-k in (omega arith, l.invariant.1, simp length-set l.invariant.2, map_first-on _ _ _ _ _ l.k l.invariant.3 (omega arith) (release-by _ _ _ _ c.is_within-gone.ensures c.released-kept.ensures))
+loop-k-preserved c = let l = c.loop-k in (omega arith, l.invariant.1, simp length-set l.invariant.2, map_first-on _ _ _ _ _ l.k l.invariant.3 (omega arith) (release-by _ _ _ _ c.is_within.ensures c.released.ensures))
 
 pub returns : goal.returns
 returns c = let l = c.loop-k in l.invariant.3 ∙ map_first-end _ _ l.k (omega arith)

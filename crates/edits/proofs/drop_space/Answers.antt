@@ -15,4 +15,4 @@ pub bounds-next-i : goal.bounds-next-i
 bounds-next-i c = search (rules, length-mapped)
 
 pub returns : goal.returns
-returns c = drop_here _ _ _ _ (omega arith) (ap (λ (o : Object). set c.args.t.objects c.args.i o) c.free_object-object.ensures) c.cleared-kept.ensures
+returns c = drop_here _ _ _ _ (omega arith) (ap (λ (o : Object). set c.args.t.objects c.args.i o) c.free_object.ensures) c.cleared-next.ensures

@@ -7,4 +7,4 @@ use Rattle.edits.proofs.settled.Goals as goal
 
 pub returns : goal.returns
 unfolding outcome
-returns c = answer-is _ _ _ _ (search rules ∙ c.signed_result.ensures) c.apply-table.ensures
+returns c = answer-is _ _ _ _ (search rules ∙ c.signed_result.ensures) c.apply.ensures

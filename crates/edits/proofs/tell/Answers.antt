@@ -3,4 +3,4 @@ use mathlib.Core.Path.{◌∙◌}
 use Rattle.edits.proofs.tell.Goals as goal
 
 pub returns : goal.returns
-returns c = c.acceptance.ensures ∙ rw c.free_object-object.ensures
+returns c = c.acceptance.ensures ∙ rw c.free_object.ensures

@@ -25,11 +25,11 @@ returns-then-not-f c = let a = c.args in let ms = records_of a.ws.now in let t =
 
 pub returns-in_default : goal.returns-in_default
 unfolding table_of good_board
-returns-in_default c = let a = c.args in let ms = records_of a.ws.now in let t = table_of (head_in a.h.now) ms in let b : Board = record { table = t; index = a.ix.now } in let verdict = sym (c.check-f.ensures.verdict ∙ ap (λ (u : Table). good u && agrees a.ix.now ms) (table_is a.h.now ms)) in by-unlisted b a.request a.cmd.now (verdict ∙ not-false _ c.if-not-f.false) _ c.look_up-row.ensures c.in_default.is
+returns-in_default c = let a = c.args in let ms = records_of a.ws.now in let t = table_of (head_in a.h.now) ms in let b : Board = record { table = t; index = a.ix.now } in let verdict = sym (c.check-f.ensures.verdict ∙ ap (λ (u : Table). good u && agrees a.ix.now ms) (table_is a.h.now ms)) in by-unlisted b a.request a.cmd.now (verdict ∙ not-false _ c.if-not-f.false) _ c.look_up.ensures c.in_default.is
 
 pub explain_command-requires : goal.explain_command-requires
-explain_command-requires c = (opened-is _ c.args.request c.args.cmd.now _ _ _ _ c.look_up-row.ensures c.in-Listed.is c.open-opening.ensures c.opening_reason-opened.ensures, c.check-f.ensures.known (not-false _ c.if-not-f.false))
+explain_command-requires c = (opened-is _ c.args.request c.args.cmd.now _ _ _ c.look_up.ensures c.in-Some.is c.open-opening.ensures c.opening_reason-opened.ensures, c.check-f.ensures.known (not-false _ c.if-not-f.false))
 
 pub returns : goal.returns
 unfolding table_of good_board
-returns c = let a = c.args in let ms = records_of a.ws.now in let t = table_of (head_in a.h.now) ms in let b : Board = record { table = t; index = a.ix.now } in let verdict = sym (c.check-f.ensures.verdict ∙ ap (λ (u : Table). good u && agrees a.ix.now ms) (table_is a.h.now ms)) in by-listed b a.request a.cmd.now (verdict ∙ not-false _ c.if-not-f.false) _ c.look_up-row.ensures _ (table_is a.h.now ms) _ _ c.in-Listed.is _ c.explain_command.ensures
+returns c = let a = c.args in let ms = records_of a.ws.now in let t = table_of (head_in a.h.now) ms in let b : Board = record { table = t; index = a.ix.now } in let verdict = sym (c.check-f.ensures.verdict ∙ ap (λ (u : Table). good u && agrees a.ix.now ms) (table_is a.h.now ms)) in by-listed b a.request a.cmd.now (verdict ∙ not-false _ c.if-not-f.false) _ c.look_up.ensures _ (table_is a.h.now ms) _ c.in-Some.is _ c.explain_command.ensures

@@ -1,4 +1,3 @@
-use Prim.Native.Nat.{◌-◌}
 use mathlib.Core.Path.{◌≡◌}
 use lib.ListN.{drop}
 use Rattle.lists.specs.Search.{find}
@@ -9,6 +8,3 @@ use Rattle.freeranges.proofs.covering.Given as goal
 
 abbrev pub invariant-loop-i : goal.invariant-loop-i
 invariant-loop-i l = upto (find (λ r. holds r l.x) (drop l.i (listed l.n l.starts l.lasts))) ≡ cover_of (listed l.n l.starts l.lasts) l.x
-
-abbrev pub decreases-loop-i : goal.decreases-loop-i
-decreases-loop-i l = l.n - l.i

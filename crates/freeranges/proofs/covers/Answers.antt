@@ -1,9 +1,9 @@
--- One law a return.
+-- Below the start it is outside; else the last decides.
 use Rattle.freeranges.proofs.Scanning.{covers-above, covers-upto}
 use Rattle.freeranges.proofs.covers.Goals as goal
 
-pub returns-then-x-start : goal.returns-then-x-start
-returns-then-x-start c = covers-above _ _ _ c.if-x-start.true
+pub returns-then-start-x : goal.returns-then-start-x
+returns-then-start-x c = covers-upto _ _ _ c.if-start-x.true
 
-pub returns : goal.returns
-returns c = covers-upto _ _ _ c.if-x-start.false
+pub returns-else-start-x : goal.returns-else-start-x
+returns-else-start-x c = covers-above _ _ _ c.if-start-x.false

@@ -7,7 +7,7 @@ pub loop-i-init : goal.loop-i-init
 loop-i-init c = (omega arith, end_start _ _)
 
 pub loop-i-preserved : goal.loop-i-preserved
-loop-i-preserved c = (omega arith, rw c.lower-lowest.ensures (end_on _ _ _ (omega arith) (omega arith) c.loop-i.i _ _ c.loop-i.invariant.1 _ (omega arith) c.end_before.ensures))
+loop-i-preserved c = (omega arith, rw c.min-lowest.ensures (end_on _ _ _ (omega arith) (omega arith) c.loop-i.i _ _ c.loop-i.invariant.1 _ (omega arith) c.end_before.ensures))
 
 pub returns : goal.returns
 returns c = end_done _ _ _ (omega arith) (omega arith) c.loop-i.i _ _ c.loop-i.invariant.1 (omega arith) c.loop-i.invariant.0

@@ -1,4 +1,4 @@
-use Prim.Native.Nat.{◌-◌, ◌≤◌, min}
+use Prim.Native.Nat.{◌≤◌, min}
 use mathlib.Core.Path.{◌≡◌}
 use lib.ListN.{drop}
 use Rattle.ranges.specs.Ranges.{U64MAX}
@@ -8,6 +8,3 @@ use Rattle.freeranges.proofs.run_end.Given as goal
 
 abbrev pub invariant-loop-i : goal.invariant-loop-i
 invariant-loop-i l = (l.lowest ≤ U64MAX) × (min l.lowest (run_end (drop l.i (listed l.n l.starts l.lasts)) l.x) ≡ run_end (listed l.n l.starts l.lasts) l.x)
-
-abbrev pub decreases-loop-i : goal.decreases-loop-i
-decreases-loop-i l = l.n - l.i

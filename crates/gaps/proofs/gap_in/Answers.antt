@@ -9,15 +9,15 @@ use Rattle.lists.specs.Sums.{count_of-length}
 use Rattle.layout_objects.specs.Slots.{objects-long}
 use Rattle.reserved_ranges.specs.Gathered.{reserved_of-most}
 use Rattle.index_search.specs.Indexed.{indexed-length}
-use Rattle.gaps.proofs.Meeting.{still-address, still-place, moved}
 use Rattle.gaps.proofs.Walking.{room_fits, walk_none, walk_start, walk_full, walk_sum, walk_never, walk_on, walk_found, walk_less}
+use Rattle.gaps.proofs.gap_in.Goals.{else-y-x-via-then-y-x+else-r-k, else-y-x-via-else-y-x}
 use Rattle.gaps.proofs.gap_in.Goals as goal
 
 pub returns-in_default : goal.returns-in_default
-returns-in_default c = walk_none c.args.w.alignment c.args.w.length c.args.w.low c.args.s (objects_in c.args.h.now) c.args.window c.args.n c.args.ix.now (records_of c.args.ws.now) c.requires c.higher.result c.lowest_multiple-first.result (omega arith) c.higher.ensures c.lowest_multiple-first.ensures c.in_default.is
+returns-in_default c = walk_none c.args.w.alignment c.args.w.length c.args.w.low c.args.s (objects_in c.args.h.now) c.args.window c.args.n c.args.ix.now (records_of c.args.ws.now) c.requires c.max.result c.lowest_multiple-first.result (omega arith) c.max.ensures c.lowest_multiple-first.ensures c.in_default.is
 
 pub loop-w-init : goal.loop-w-init
-loop-w-init c = walk_start c.args.w.alignment c.args.w.length c.args.w.low c.args.s (objects_in c.args.h.now) c.args.window c.args.n c.args.ix.now (records_of c.args.ws.now) c.requires c.higher.result c.lowest_multiple-first.result (omega arith) c.higher.ensures c.lowest_multiple-first.ensures c.in-At.start c.entry_of-k.result c.in-At.is c.entry_of-k.ensures
+loop-w-init c = walk_start c.args.w.alignment c.args.w.length c.args.w.low c.args.s (objects_in c.args.h.now) c.args.window c.args.n c.args.ix.now (records_of c.args.ws.now) c.requires c.max.result c.lowest_multiple-first.result (omega arith) c.max.ensures c.lowest_multiple-first.ensures c.in-Some.start c.entry_of-k.result c.in-Some.is c.entry_of-k.ensures
 
 pub returns-then-not-has_room : goal.returns-then-not-has_room
 returns-then-not-has_room c = let l = c.loop-w in walk_full c.args.w.alignment c.args.w.length c.args.w.low c.args.s (objects_in c.args.h.now) c.args.window c.args.n c.args.ix.now (records_of c.args.ws.now) c.requires l.x l.k l.jumps l.invariant c.has_room.result c.has_room.ensures c.if-not-has_room.true-raw
@@ -31,11 +31,11 @@ overflow_add-jumps c = let l = c.loop-w in omega (arith, walk_sum c.args.w.align
 pub returns-in_default-spot : goal.returns-in_default-spot
 returns-in_default-spot c = let l = c.loop-w in walk_never c.args.w.alignment c.args.w.length c.args.w.low c.args.s (objects_in c.args.h.now) c.args.window c.args.n c.args.ix.now (records_of c.args.ws.now) c.requires l.x l.k l.jumps l.invariant c.go_on-r.result.spot c.go_on-r.result.place c.go_on-r.result.jumps c.go_on-r.ensures c.in_default-spot.is
 
-pub returns-then-is_still : goal.returns-then-is_still
-returns-then-is_still c = let l = c.loop-w in walk_found c.args.w.alignment c.args.w.length c.args.w.low c.args.s (objects_in c.args.h.now) c.args.window c.args.n c.args.ix.now (records_of c.args.ws.now) c.requires l.x l.k l.jumps l.invariant c.go_on-r.result.spot c.go_on-r.result.place c.go_on-r.result.jumps c.go_on-r.ensures c.in-At-spot.y c.in-At-spot.is c.has_room.result c.has_room.ensures c.if-not-has_room.false-raw (still-address c.in-At-spot.y l.x c.go_on-r.result.place l.k c.is_still.result c.is_still.ensures c.if-is_still.true) (still-place c.in-At-spot.y l.x c.go_on-r.result.place l.k c.is_still.result c.is_still.ensures c.if-is_still.true)
+pub returns-then-r-k : goal.returns-then-r-k
+returns-then-r-k c = let l = c.loop-w in walk_found c.args.w.alignment c.args.w.length c.args.w.low c.args.s (objects_in c.args.h.now) c.args.window c.args.n c.args.ix.now (records_of c.args.ws.now) c.requires l.x l.k l.jumps l.invariant c.go_on-r.result.spot c.go_on-r.result.place c.go_on-r.result.jumps c.go_on-r.ensures c.in-Some-spot.y c.in-Some-spot.is c.has_room.result c.has_room.ensures c.if-not-has_room.false-raw (omega (arith, c.if-y-x.true)) (omega (arith, c.if-r-k.true))
 
 pub loop-w-smaller : goal.loop-w-smaller
-loop-w-smaller c = let l = c.loop-w in walk_less c.args.w.alignment c.args.w.length c.args.w.low c.args.s (objects_in c.args.h.now) c.args.window c.args.n c.args.ix.now (records_of c.args.ws.now) c.requires l.x l.k l.jumps l.invariant c.go_on-r.result.spot c.go_on-r.result.place c.go_on-r.result.jumps c.go_on-r.ensures c.in-At-spot.y c.in-At-spot.is (moved c.in-At-spot.y l.x c.go_on-r.result.place l.k c.is_still.result c.is_still.ensures c.if-is_still.false)
+loop-w-smaller c = let l = c.loop-w in walk_less c.args.w.alignment c.args.w.length c.args.w.low c.args.s (objects_in c.args.h.now) c.args.window c.args.n c.args.ix.now (records_of c.args.ws.now) c.requires l.x l.k l.jumps l.invariant c.go_on-r.result.spot c.go_on-r.result.place c.go_on-r.result.jumps c.go_on-r.ensures c.in-Some-spot.y c.in-Some-spot.is (λ e f. elim c.else-y-x.branch [ else-y-x-via-then-y-x+else-r-k w ↦ w.if-r-k.false f | else-y-x-via-else-y-x w ↦ w.if-y-x.false e ])
 
 pub loop-w-preserved : goal.loop-w-preserved
-loop-w-preserved c = let l = c.loop-w in walk_on c.args.w.alignment c.args.w.length c.args.w.low c.args.s (objects_in c.args.h.now) c.args.window c.args.n c.args.ix.now (records_of c.args.ws.now) c.requires l.x l.k l.jumps l.invariant c.go_on-r.result.spot c.go_on-r.result.place c.go_on-r.result.jumps c.go_on-r.ensures c.in-At-spot.y c.in-At-spot.is
+loop-w-preserved c = let l = c.loop-w in walk_on c.args.w.alignment c.args.w.length c.args.w.low c.args.s (objects_in c.args.h.now) c.args.window c.args.n c.args.ix.now (records_of c.args.ws.now) c.requires l.x l.k l.jumps l.invariant c.go_on-r.result.spot c.go_on-r.result.place c.go_on-r.result.jumps c.go_on-r.ensures c.in-Some-spot.y c.in-Some-spot.is

@@ -21,4 +21,4 @@ pub returns-then-errno-ne0 : goal.returns-then-errno-ne0
 returns-then-errno-ne0 c = λ os l e. settle-refused _ _ _ _ c.bind_errno-errno.ensures c.if-errno-ne0.true c.refusal.ensures ∙ bind-record os _ _
 
 pub returns : goal.returns
-returns c = λ os l e. settle-taken _ _ _ _ c.bind_errno-errno.ensures (omega arith) (c.add_new.ensures os l e ∙ ap (λ (o : Object). added (free_record os) o) c.new_device-n.ensures) ∙ bind-record os _ _
+returns c = λ os l e. settle-taken _ _ _ _ c.bind_errno-errno.ensures (omega arith) (c.add_new.ensures os l e ∙ ap (λ (o : Object). added (free_record os) o) c.new_device.ensures) ∙ bind-record os _ _

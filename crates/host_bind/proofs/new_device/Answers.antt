@@ -4,4 +4,4 @@ use Rattle.host_bind.proofs.new_device.Goals as goal
 
 pub returns : goal.returns
 unfolding new_device
-returns c = rw c.trim-reserved.ensures
+returns c = rw c.trim.ensures

@@ -4,4 +4,4 @@ use Rattle.host_bind.proofs.trim.Goals as goal
 
 pub returns : goal.returns
 unfolding trimmed
-returns c = rw (c.only_first-lasts.ensures, c.only_first-starts.ensures)
+returns c = rw (c.only_first-2.ensures, c.only_first.ensures)

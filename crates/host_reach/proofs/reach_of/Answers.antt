@@ -6,7 +6,6 @@ use Rattle.ranges.specs.declared.Range.{Range}
 use Rattle.ranges.specs.Ranges.{span, span-some}
 use Rattle.rules_calls.specs.Reach.{around}
 use Rattle.layout_mappings.specs.Words.{records_of}
-use Rattle.index_search.specs.Sourced.{sourced}
 use Rattle.host_reach.proofs.Reaching.{home-pos, reach-refused, reach-nowhere, reach-found, around-fits}
 use borrow.Author.Rules.{rules}
 use Rattle.host_reach.proofs.reach_of.Goals as goal
@@ -22,7 +21,7 @@ pub returns-in_default : goal.returns-in_default
 returns-in_default c = λ os d e. c.refusal-in_default.ensures ∙ reach-nowhere os _ d _ _ _ _ e _ c.reach_errno-errno.ensures _ _ _ (omega arith) c.home_of-s.ensures c.span_of-r.ensures c.find_around-f.ensures c.in_default.is
 
 pub reach_in-requires : goal.reach_in-requires
-reach_in-requires c = around-fits c.requires.2.0 _ _ _ _ _ (c.find_around-f.ensures ∙ ap (λ (r : Range). sourced (around (records_of c.args.ws.now) c.home_of-s.result r)) c.span_of-r.ensures) _ c.in-Mapped.is (omega arith) c.requires.2.1
+reach_in-requires c = around-fits c.requires.2.0 _ _ _ _ _ (c.find_around-f.ensures ∙ ap (λ (r : Range). (around (records_of c.args.ws.now) c.home_of-s.result r)) c.span_of-r.ensures) _ c.in-Some.is (omega arith) c.requires.2.1
 
 pub returns : goal.returns
-returns c = λ os d e. reach-found os _ d _ _ _ _ e _ c.reach_errno-errno.ensures _ _ _ (omega arith) c.home_of-s.ensures c.span_of-r.ensures c.find_around-f.ensures _ _ c.in-Mapped.is c.reach_in.ensures
+returns c = λ os d e. reach-found os _ d _ _ _ _ e _ c.reach_errno-errno.ensures _ _ _ (omega arith) c.home_of-s.ensures c.span_of-r.ensures c.find_around-f.ensures _ _ c.in-Some.is c.reach_in.ensures

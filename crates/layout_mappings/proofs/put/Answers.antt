@@ -2,4 +2,4 @@ use Rattle.layout_mappings.specs.Words.{records-set}
 use Rattle.layout_mappings.proofs.put.Goals as goal
 
 pub returns : goal.returns
-returns c = records-set c.args.ws.now c.args.i c.words-w.result c.args.m c.words-w.ensures.1
+returns c = records-set c.args.ws.now c.args.i c.words.result c.args.m c.words.ensures.1

@@ -6,6 +6,4 @@ pub returns-then-w-eq0 : goal.returns-then-w-eq0
 returns-then-w-eq0 c = kind-blank c.args.h.now c.args.i c.requires c.if-w-eq0.true
 
 pub returns : goal.returns
-returns c = c.kind_of.ensures ∙ kind-words c.args.h.now c.args.i
-    c.low-kind.result c.high-home.result c.requires c.low-kind.ensures
-    c.high-home.ensures
+returns c = c.kind_of.ensures ∙ kind-words c.args.h.now c.args.i c.low.result c.high.result c.requires c.low.ensures c.high.ensures

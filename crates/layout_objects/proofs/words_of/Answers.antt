@@ -4,7 +4,9 @@ use borrow.Author.Rules.{rules}
 use Rattle.layout_objects.proofs.words_of.Goals as goal
 
 pub returns : goal.returns
-returns c = raw_back c.args.r
+returns c =
+    rw (c.joined.ensures, c.joined-2.ensures)
+    (raw_back c.args.r
     (record {
       kind = omega arith;
       home = omega arith;
@@ -12,7 +14,6 @@ returns c = raw_back c.args.r
       allows = omega arith;
       starts = search rules;
       lasts = search rules;
-      froms
-          = search rules;
+      froms = search rules;
       ends = search rules;
-    })
+    }))

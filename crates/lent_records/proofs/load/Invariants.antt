@@ -1,5 +1,5 @@
 -- After i turns the array holds the words of the first i records, and these come back from their words.
-use Rattle.std.proofs.Common.{◌-◌, ◌≡◌, ◌≤◌}
+use Rattle.std.proofs.Common.{◌≡◌, ◌≤◌}
 use Rattle.walks.specs.Stores.{stores}
 use Rattle.lent_records.specs.Loading.{blank, loaded, Back}
 use Rattle.lent_records.proofs.load.Given as goal
@@ -10,6 +10,3 @@ invariant-loop-i l = record {
   made : l.ws ≡ stores blank (loaded l.ms l.initial.ws) l.initial.ws l.i;
   back : Back l.ms l.i;
 }
-
-abbrev pub decreases-loop-i : goal.decreases-loop-i
-decreases-loop-i l = l.n - l.i

@@ -1,5 +1,5 @@
 -- After the turn at place i the slice holds what is stored before place i + 1, and what it held from there on.
-use Rattle.std.proofs.Common.{◌-◌, ◌≡◌, ◌≤◌}
+use Rattle.std.proofs.Common.{◌≡◌, ◌≤◌}
 use Rattle.walks.specs.Stores.{stores}
 use Rattle.rules_table.specs.Records.{zero_mapping}
 use Rattle.lent_records.specs.Records.{stored}
@@ -10,6 +10,3 @@ invariant-loop-i l = record {
   within : l.i ≤ l.n;
   made : l.ms ≡ stores zero_mapping (stored l.c l.initial.ms) l.initial.ms l.i;
 }
-
-abbrev pub decreases-loop-i : goal.decreases-loop-i
-decreases-loop-i l = l.n - l.i

@@ -8,4 +8,4 @@ pub returns-in_default : goal.returns-in_default
 returns-in_default c = let a = c.args in both-nowhere (objects_in a.h.now) (records_of a.ws.now) _ _ _ c.free_reserved-f.ensures c.in_default.is
 
 pub returns : goal.returns
-returns c = let a = c.args in both-free (objects_in a.h.now) (records_of a.ws.now) _ _ _ c.free_reserved-f.ensures _ c.in-At.is _ c.free_mapped.ensures
+returns c = let a = c.args in both-free (objects_in a.h.now) (records_of a.ws.now) _ _ _ c.free_reserved-f.ensures _ c.in-Some.is _ c.free_mapped.ensures

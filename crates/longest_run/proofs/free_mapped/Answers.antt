@@ -14,7 +14,7 @@ pub returns-in_default : goal.returns-in_default
 returns-in_default c = let a = c.args in let l = c.loop-i in extents_each _ _ _ _ _ (free-nowhere (extent_for a.s) (records_of a.ws.now) zero_mapping _ _ _ l.i l.invariant (omega (arith, records-length a.ws.now, c.loop-i-test.true)) _ c.free_record-f.ensures c.in_default.is)
 
 pub loop-i-preserved : goal.loop-i-preserved
-loop-i-preserved c = let a = c.args in let l = c.loop-i in free_on (extent_for a.s) (records_of a.ws.now) zero_mapping _ _ _ l.i l.invariant (omega (arith, records-length a.ws.now, c.loop-i-test.true)) _ c.free_record-f.ensures _ c.in-At.is
+loop-i-preserved c = let a = c.args in let l = c.loop-i in free_on (extent_for a.s) (records_of a.ws.now) zero_mapping _ _ _ l.i l.invariant (omega (arith, records-length a.ws.now, c.loop-i-test.true)) _ c.free_record-f.ensures _ c.in-Some.is
 
 pub returns : goal.returns
 returns c = let a = c.args in let l = c.loop-i in extents_each _ _ _ _ _ (free-end (extent_for a.s) (records_of a.ws.now) zero_mapping _ _ _ l.i l.invariant (omega (arith, records-length a.ws.now, c.loop-i-test.false)))

@@ -18,7 +18,7 @@ pub returns-in_default : goal.returns-in_default
 returns-in_default c = let a = c.args in let l = c.loop-i in free-nowhere (reserved_for a.s) (objects_in a.h.now) zero_object _ _ _ l.i l.invariant (omega (arith, objects-long a.h.now, c.loop-i-test.true)) _ c.free_slot-f.ensures c.in_default.is ∙ sym (ap (free_to U64MAX _) (reserved-each (objects_in a.h.now) _))
 
 pub loop-i-preserved : goal.loop-i-preserved
-loop-i-preserved c = let a = c.args in let l = c.loop-i in free_on (reserved_for a.s) (objects_in a.h.now) zero_object _ _ _ l.i l.invariant (omega (arith, objects-long a.h.now, c.loop-i-test.true)) _ c.free_slot-f.ensures _ c.in-At.is
+loop-i-preserved c = let a = c.args in let l = c.loop-i in free_on (reserved_for a.s) (objects_in a.h.now) zero_object _ _ _ l.i l.invariant (omega (arith, objects-long a.h.now, c.loop-i-test.true)) _ c.free_slot-f.ensures _ c.in-Some.is
 
 pub returns : goal.returns
 returns c = let a = c.args in let l = c.loop-i in free-end (reserved_for a.s) (objects_in a.h.now) zero_object _ _ _ l.i l.invariant (omega (arith, objects-long a.h.now, c.loop-i-test.false)) ∙ sym (ap (free_to U64MAX _) (reserved-each (objects_in a.h.now) _))

@@ -1,4 +1,3 @@
-use Prim.Native.Nat.{◌-◌}
 use Rattle.ranges.specs.Ranges.{U64MAX}
 use Rattle.rules_table.specs.Spaces.{reserved_for}
 use Rattle.rules_table.specs.Words.{objects_in}
@@ -7,6 +6,3 @@ use Rattle.longest_run.proofs.free_reserved.Given as goal
 
 abbrev pub invariant-loop-i : goal.invariant-loop-i
 invariant-loop-i l = Freeing (reserved_for l.s) (objects_in l.h) U64MAX l.x l.e l.i
-
-abbrev pub decreases-loop-i : goal.decreases-loop-i
-decreases-loop-i l = 32 - l.i

@@ -1,4 +1,4 @@
-use Prim.Native.Nat.{◌-◌, ◌≤◌}
+use Prim.Native.Nat.{◌≤◌}
 use mathlib.Core.Path.{◌≡◌}
 use lib.ListN.{length}
 use Rattle.rangelists.specs.Listed.{listed}
@@ -11,6 +11,3 @@ use Rattle.longest_run.proofs.in_list.Given as goal
 
 abbrev pub invariant-loop-i : goal.invariant-loop-i
 invariant-loop-i l = (length l.allow.starts ≡ 8) × (length l.allow.lasts ≡ 8) × (l.n ≤ 8) × Trying (in_window l.a lowest_tried (blocked_in (objects_in l.h) (records_of l.ws) l.s)) (listed l.n l.allow.starts l.allow.lasts) l.initial.best l.best l.i
-
-abbrev pub decreases-loop-i : goal.decreases-loop-i
-decreases-loop-i l = l.n - l.i

@@ -1,4 +1,3 @@
-use Prim.Native.Nat.{◌-◌}
 use Rattle.runs.specs.Runs.{past_range}
 use Rattle.rules_table.specs.Spaces.{reserved_for}
 use Rattle.rules_table.specs.Words.{objects_in}
@@ -9,6 +8,3 @@ use Rattle.longest_run.proofs.past_reserved.Given as goal
 
 abbrev pub invariant-loop-i : goal.invariant-loop-i
 invariant-loop-i l = Passing (past_range l.a lowest_tried (blocked_in (objects_in l.h) (records_of l.ws) l.s) l.window) (reserved_for l.s) (objects_in l.h) l.initial.best l.best l.i
-
-abbrev pub decreases-loop-i : goal.decreases-loop-i
-decreases-loop-i l = 32 - l.i

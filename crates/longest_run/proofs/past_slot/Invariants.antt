@@ -1,4 +1,4 @@
-use Prim.Native.Nat.{◌-◌, ◌≤◌}
+use Prim.Native.Nat.{◌≤◌}
 use mathlib.Core.Path.{◌≡◌}
 use lib.ListN.{length}
 use Rattle.rangelists.specs.Listed.{listed}
@@ -11,6 +11,3 @@ use Rattle.longest_run.proofs.past_slot.Given as goal
 
 abbrev pub invariant-loop-k : goal.invariant-loop-k
 invariant-loop-k l = (length l.l.starts ≡ 4) × (length l.l.lasts ≡ 4) × (l.n ≤ 4) × Trying (past_range l.a lowest_tried (blocked_in (objects_in l.h) (records_of l.ws) l.s) l.window) (listed l.n l.l.starts l.l.lasts) l.initial.best l.best l.k
-
-abbrev pub decreases-loop-k : goal.decreases-loop-k
-decreases-loop-k l = l.n - l.k

@@ -1,10 +1,16 @@
 -- 0 where the place is the same, else 1.
-use native.Mathlib.Omega.{arith}
-use Rattle.placement.specs.Sweeping.{jumps_none, jumps_one}
+use Prim.Native.Nat.{ℕ}
+use mathlib.Core.Path.{◌≡◌, ◌∙◌}
+use mathlib.Core.Bool.{not}
+use lib.Dec.{eqb}
+use mir.Val.{bool_byte}
+use Rattle.lists.specs.Tests.{by-test}
+use Rattle.placement.specs.Jumps.{jumps_to}
 use Rattle.placement.proofs.jumps_to.Goals as goal
 
-pub returns-then-x-y : goal.returns-then-x-y
-returns-then-x-y c = jumps_none _ _ (omega arith)
+told : (x y : ℕ) → bool_byte (not (eqb x y)) ≡ jumps_to x y
+unfolding jumps_to
+told x y = by-test (eqb x y) (λ t. rw t) (λ t. rw t)
 
-pub returns-else-x-y : goal.returns-else-x-y
-returns-else-x-y c = jumps_one _ _ (λ e. omega (arith, e))
+pub returns : goal.returns
+returns c = c.from.ensures ∙ told _ _

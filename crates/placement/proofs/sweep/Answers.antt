@@ -1,19 +1,16 @@
 -- The place has come from `from` by so many jumps, and where it has not moved, what is left tells whether anything is touched.
 use native.Mathlib.Omega.{arith}
-use Rattle.placement.specs.Sweeping.{jumps_most, sweep_start, sweep_small, sweep_on, sweep_never, sweep_end}
+use Rattle.placement.specs.Sweeping.{jumps_most, sweep_small, sweep_on, sweep_never, sweep_end}
 use Rattle.placement.proofs.sweep.Goals as goal
 
-pub loop-i-init : goal.loop-i-init
-loop-i-init c = sweep_start _ _ _ _ (omega arith)
-
 pub returns-in_default : goal.returns-in_default
-returns-in_default c = let l = c.loop-i in sweep_never _ _ _ _ _ (omega arith) (omega arith) _ _ _ l.i l.invariant (omega arith) _ c.past-s.ensures c.in_default.is
+returns-in_default c = let l = c.loop-i in sweep_never _ _ _ _ _ (omega arith) (omega arith) _ _ _ l.i l.invariant (omega arith) _ c.past.ensures c.in_default.is
 
 pub overflow_add-jumps : goal.overflow_add-jumps
-overflow_add-jumps c = let l = c.loop-i in omega (arith, sweep_small _ _ _ _ _ (omega arith) (omega arith) _ _ _ l.i l.invariant, c.jumps_to-jumps.ensures, jumps_most l.x c.in-At.y)
+overflow_add-jumps c = let l = c.loop-i in omega (arith, sweep_small _ _ _ _ _ (omega arith) (omega arith) _ _ _ l.i l.invariant, c.jumps_to-jumps.ensures, jumps_most l.x c.in-Some.y)
 
 pub loop-i-preserved : goal.loop-i-preserved
-loop-i-preserved c = let l = c.loop-i in sweep_on _ _ _ _ _ (omega arith) (omega arith) _ _ _ l.i l.invariant (omega arith) _ c.past-s.ensures _ _ c.in-At.is c.jumps_to-jumps.ensures
+loop-i-preserved c = let l = c.loop-i in sweep_on _ _ _ _ _ (omega arith) (omega arith) _ _ _ l.i l.invariant (omega arith) _ c.past.ensures _ _ c.in-Some.is c.jumps_to-jumps.ensures
 
 pub returns : goal.returns
 returns c = let l = c.loop-i in sweep_end _ _ _ _ _ (omega arith) (omega arith) _ _ _ l.i l.invariant (omega arith)

@@ -3,4 +3,4 @@ use Rattle.plan_run.specs.Shown.{shows_fits}
 use Rattle.plan_run.proofs.show.Goals as goal
 
 pub print_lines-requires : goal.print_lines-requires
-print_lines-requires c = shows_fits _ _ _ _ _ c.run-o.ensures
+print_lines-requires c = shows_fits _ _ _ _ _ c.in-Some.ensures

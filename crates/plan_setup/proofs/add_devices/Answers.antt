@@ -1,23 +1,19 @@
 -- What is left of the section gives what all of it does, and ends by the last byte.
 use native.Mathlib.Omega.{arith}
-use mathlib.Core.Path.{refl, sym, ◌∙◌}
+use mathlib.Core.Path.{sym, ◌∙◌}
 use Rattle.plan_shape.specs.declared.Section.TheVariants.{Devices}
-use Rattle.plan_shape.specs.Ends.{item_room, item_next, items_room, device-room}
-use Rattle.plan_setup.proofs.Settling.{devices-turn, devices-none, turn-stops, devices-go}
-use borrow.Author.Rules.{rules}
+use Rattle.plan_shape.specs.Ends.{item_room, item_next, device-room}
+use Rattle.plan_setup.proofs.Settling.{devices-turn, devices-none, devices-go, turn-stops, items-left}
 use Rattle.plan_setup.proofs.add_devices.Goals as goal
 
-pub loop-left-init : goal.loop-left-init
-loop-left-init c = (search rules, refl)
+pub add_device-requires : goal.add_device-requires
+add_device-requires c = let l = c.loop-i in device-room _ _ (item_room Devices _ _ l.at l.invariant.0 (omega arith))
 
-pub add_device-d-requires : goal.add_device-d-requires
-add_device-d-requires c = let l = c.loop-left in device-room _ _ (item_room Devices _ l.left l.at l.invariant.0 (omega arith))
+pub returns-in_err-t : goal.returns-in_err-t
+returns-in_err-t c = let l = c.loop-i in c.from_residual.ensures ∙ turn-stops _ _ (devices-turn _ _ l.at l.t (omega arith)) l.invariant.1 c.in_err-t.ensures
 
-pub returns-then-d : goal.returns-then-d
-returns-then-d c = let l = c.loop-left in turn-stops _ _ (devices-turn l.left _ l.at l.t (omega arith)) l.invariant.1 c.add_device-d.ensures c.if-d.true
-
-pub loop-left-preserved : goal.loop-left-preserved
-loop-left-preserved c = let l = c.loop-left in (items_room Devices _ l.left l.at l.invariant.0 (omega arith) _ c.item_end-at.ensures, devices-go l.left _ l.at _ l.t l.invariant.1 (omega arith) c.add_device-d.ensures c.if-d.false (item_next Devices _ l.left l.at l.invariant.0 (omega arith) _ c.item_end-at.ensures))
+pub loop-i-preserved : goal.loop-i-preserved
+loop-i-preserved c = let l = c.loop-i in (items-left Devices _ _ _ l.at l.invariant.0 (omega arith) (omega arith) _ c.item_end-at.ensures, devices-go _ _ _ l.at _ l.t _ l.invariant.1 (omega arith) (omega arith) c.in_ok-t.ensures (item_next Devices _ _ l.at l.invariant.0 (omega arith) _ c.item_end-at.ensures))
 
 pub returns : goal.returns
-returns c = let l = c.loop-left in sym (devices-none l.left _ l.at l.t (omega arith)) ∙ l.invariant.1
+returns c = let l = c.loop-i in sym (devices-none _ _ l.at l.t (omega arith)) ∙ l.invariant.1

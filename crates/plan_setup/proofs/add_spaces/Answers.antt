@@ -1,18 +1,14 @@
 -- What is left of the spaces gives what all of them do.
 use native.Mathlib.Omega.{arith}
-use mathlib.Core.Path.{refl, sym, ◌∙◌}
-use Rattle.plan_setup.specs.Setting.{with_space}
-use Rattle.plan_setup.proofs.Settling.{spaces-turn, spaces-none, turn-stops, turn-goes}
+use mathlib.Core.Path.{sym, ◌∙◌}
+use Rattle.plan_setup.proofs.Settling.{spaces-turn, spaces-none, spaces-go, turn-stops}
 use Rattle.plan_setup.proofs.add_spaces.Goals as goal
 
-pub loop-left-init : goal.loop-left-init
-loop-left-init c = refl
+pub returns-in_err-t : goal.returns-in_err-t
+returns-in_err-t c = let l = c.loop-i in c.from_residual.ensures ∙ turn-stops _ _ (spaces-turn _ l.t (omega arith)) l.invariant c.in_err-t.ensures
 
-pub returns-then-s : goal.returns-then-s
-returns-then-s c = let l = c.loop-left in turn-stops _ _ (spaces-turn l.left l.t (omega arith)) l.invariant c.add_space-s.ensures c.if-s.true
-
-pub loop-left-preserved : goal.loop-left-preserved
-loop-left-preserved c = let l = c.loop-left in turn-goes (with_space l.t) _ (spaces-turn l.left l.t (omega arith)) l.invariant c.add_space-s.ensures c.if-s.false
+pub loop-i-preserved : goal.loop-i-preserved
+loop-i-preserved c = let l = c.loop-i in spaces-go _ _ l.t _ l.invariant (omega arith) (omega arith) c.in_ok-t.ensures
 
 pub returns : goal.returns
-returns c = let l = c.loop-left in sym (spaces-none l.left l.t (omega arith)) ∙ l.invariant
+returns c = let l = c.loop-i in sym (spaces-none _ l.t (omega arith)) ∙ l.invariant

@@ -1,7 +1,9 @@
--- Four numbers.
-use mathlib.Core.Path.{◌∙◌}
-use Rattle.plan_setup.proofs.Settling.{four, column-4}
+-- Four calls, of which each gives the next number.
+use Rattle.std.proofs.Common.{arith}
+use Rattle.std.proofs.lemmas.Grind.{common_steps}
+use Rattle.rules_calls.specs.Allow.{column}
 use Rattle.plan_setup.proofs.column_of.Goals as goal
 
 pub returns : goal.returns
-returns c = four _ _ _ _ _ _ _ _ c.area_number.ensures c.area_number-2.ensures c.area_number-3.ensures c.area_number-4.ensures ∙ column-4 _ _ _
+unfolding column
+returns c = grind (arith, common_steps, c.from_fn.ensures.items.each)

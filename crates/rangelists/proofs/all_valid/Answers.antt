@@ -1,16 +1,14 @@
--- What is left from place i on answers for the whole.
+-- Told place by place.
+use Prim.Native.Nat.{ℕ, ◌≤◌, ◌<◌}
 use native.Mathlib.Omega.{arith}
-use Rattle.rangelists.proofs.Listing.{valid-start, valid-failed, valid-on, valid-end}
+use lib.ListN.{get_or}
+use Rattle.std.proofs.Common.{rules}
+use Rattle.std.specs.Prelude.{IsTrue, ◌↔◌}
+use Rattle.std.proofs.iter.runs.Sources.{ranges}
+use Rattle.rangelists.proofs.Listing.{valid-told}
 use Rattle.rangelists.proofs.all_valid.Goals as goal
 
-pub loop-i-init : goal.loop-i-init
-loop-i-init c = valid-start _ _ _
-
-pub returns-then-lasts-i : goal.returns-then-lasts-i
-returns-then-lasts-i c = let l = c.loop-i in valid-failed _ _ _ (omega arith) (omega arith) l.i l.invariant (omega arith) (omega arith)
-
-pub loop-i-preserved : goal.loop-i-preserved
-loop-i-preserved c = let l = c.loop-i in valid-on _ _ _ (omega arith) (omega arith) l.i l.invariant (omega arith) (omega arith)
-
 pub returns : goal.returns
-returns c = let l = c.loop-i in valid-end _ _ _ (omega arith) (omega arith) l.i l.invariant (omega arith)
+returns c =
+    let told : IsTrue c.all.result ↔ ((k : ℕ) → k < c.args.n → get_or c.args.starts.now k 0 ≤ get_or c.args.lasts.now k 0) = search (rules, ranges) in
+    valid-told _ _ _ (omega arith) (omega arith) _ told

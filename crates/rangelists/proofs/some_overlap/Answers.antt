@@ -1,18 +1,16 @@
--- Each range is searched for among those after it.
+-- Told place by place.
+use Prim.Native.Nat.{ℕ, ◌<◌, ◌+◌}
 use native.Mathlib.Omega.{arith}
-use mathlib.Core.Path.{sym, ◌∙◌, ap}
-use Rattle.rangelists.specs.Listed.{is_found}
-use Rattle.rangelists.proofs.Listing.{overlap-start, overlap-found, overlap-on, overlap-end}
+use lib.ListN.{get_or}
+use Rattle.std.proofs.Common.{rules}
+use Rattle.std.specs.Prelude.{IsTrue, ◌↔◌, is_some}
+use Rattle.std.proofs.iter.runs.Sources.{ranges}
+use Rattle.ranges.specs.Ranges.{range}
+use Rattle.rangelists.specs.Listed.{listed, touched_from}
+use Rattle.rangelists.proofs.Listing.{overlap-told}
 use Rattle.rangelists.proofs.some_overlap.Goals as goal
 
-pub loop-i-init : goal.loop-i-init
-loop-i-init c = overlap-start _ _ _
-
-pub returns-then-is_found : goal.returns-then-is_found
-returns-then-is_found c = let l = c.loop-i in overlap-found _ _ _ (omega arith) (omega arith) l.i l.invariant (omega arith) (ap is_found (sym c.touched_from.ensures) ∙ sym c.is_found.ensures ∙ c.if-is_found.true)
-
-pub loop-i-preserved : goal.loop-i-preserved
-loop-i-preserved c = let l = c.loop-i in overlap-on _ _ _ (omega arith) (omega arith) l.i l.invariant (omega arith) (ap is_found (sym c.touched_from.ensures) ∙ sym c.is_found.ensures ∙ c.if-is_found.false)
-
 pub returns : goal.returns
-returns c = let l = c.loop-i in overlap-end _ _ _ (omega arith) (omega arith) l.i l.invariant (omega arith)
+returns c =
+    let told : IsTrue c.any.result ↔ ((k : ℕ) × (k < c.args.n) × IsTrue (is_some (touched_from (range (get_or c.args.starts.now k 0) (get_or c.args.lasts.now k 0)) (k + 1) (listed c.args.n c.args.starts.now c.args.lasts.now)))) = search (rules, ranges) in
+    overlap-told _ _ _ (omega arith) (omega arith) _ told

@@ -3,10 +3,10 @@ use Rattle.ranges.specs.Ranges.{inside}
 use borrow.Author.Tests.{le-leb, lt-leb}
 use Rattle.ranges.proofs.is_inside.Goals as goal
 
-pub returns-then-r-q : goal.returns-then-r-q
+pub returns-then-q-r : goal.returns-then-q-r
 unfolding inside
-returns-then-r-q c = simp (lt-leb _ _ c.if-r-q.true)
+returns-then-q-r c = simp (le-leb _ _ c.if-q-r.true)
 
-pub returns : goal.returns
+pub returns-else-q-r : goal.returns-else-q-r
 unfolding inside
-returns c = simp (le-leb _ _ c.if-r-q.false)
+returns-else-q-r c = simp (lt-leb _ _ c.if-q-r.false)

@@ -3,12 +3,6 @@ use native.Mathlib.Omega.{arith}
 use Rattle.rules_table.specs.Words.{objects_in}
 use Rattle.layout_mappings.specs.Words.{records_of, records-length}
 use Rattle.reason_place.proofs.Telling.{by-unfit, by-reserved, by-mapped, by-nothing}
-use Rattle.alignment.proofs.is_fit.Reads as is-fit-reads
-use Rattle.index_search.proofs.is_taken.Reads as is-taken-reads
-use Rattle.ranges.proofs.span_of.Reads as span-of-reads
-use Rattle.reason_place.proofs.lowest_object.Reads as lowest-object-reads
-use Rattle.reason_place.proofs.lowest_record.Reads as lowest-record-reads
-use Rattle.reserved_ranges.proofs.is_touched.Reads as is-touched-reads
 use Rattle.reason_place.proofs.fixed_reason.Goals as goal
 
 pub returns-then-not-is_fit : goal.returns-then-not-is_fit

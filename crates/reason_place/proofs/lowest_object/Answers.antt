@@ -9,9 +9,6 @@ use Rattle.rules_table.specs.Spaces.{reserved_for}
 use Rattle.rules_table.specs.Words.{objects_in}
 use Rattle.layout_objects.specs.Slots.{objects-long}
 use Rattle.rules_reasons.specs.Reasons.{object_touched}
-use Rattle.reason_place.proofs.lowest_object.Reads as reads
-use Rattle.reason_place.proofs.lowest_object.Lts as lts
-use Rattle.reserved_ranges.proofs.slot_touched.Reads as slot-touched-reads
 use Rattle.reason_place.proofs.lowest_object.Goals as goal
 
 pub loop-i-init : goal.loop-i-init

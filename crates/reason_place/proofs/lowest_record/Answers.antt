@@ -4,10 +4,6 @@ use Rattle.reason_place.proofs.Seeking.{seek-start, seek-here, seek-next, seek-n
 use Rattle.rules_table.specs.Records.{touches, zero_mapping}
 use Rattle.layout_mappings.specs.Words.{records_of, records-length}
 use Rattle.rules_reasons.specs.Reasons.{record_touched}
-use Rattle.reason_place.proofs.lowest_record.Reads as reads
-use Rattle.reason_place.proofs.lowest_record.Lts as lts
-use Rattle.layout_mappings.proofs.record.Reads as record-reads
-use Rattle.table.proofs.is_touched.Reads as is-touched-reads
 use Rattle.reason_place.proofs.lowest_record.Goals as goal
 
 pub loop-i-init : goal.loop-i-init

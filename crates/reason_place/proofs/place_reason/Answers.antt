@@ -1,8 +1,5 @@
 -- A fixed address or an automatic one.
 use mathlib.Core.Path.{sym, ◌∙◌}
-use Rattle.opening.proofs.is_fixed.Reads as is-fixed-reads
-use Rattle.reason_place.proofs.automatic_reason.Reads as automatic-reason-reads
-use Rattle.reason_place.proofs.fixed_reason.Reads as fixed-reason-reads
 use Rattle.reason_place.proofs.place_reason.Goals as goal
 
 pub returns-then-is_fixed : goal.returns-then-is_fixed

@@ -1,4 +1,4 @@
-use Prim.Native.Nat.{◌-◌, ◌≤◌}
+use Prim.Native.Nat.{◌≤◌}
 use mathlib.Core.Path.{◌≡◌}
 use lib.ListN.{drop}
 use Rattle.freeranges.specs.Scan.{cover_of}
@@ -8,6 +8,3 @@ use Rattle.reserved_ranges.proofs.covering.Given as goal
 
 abbrev pub invariant-loop-i : goal.invariant-loop-i
 invariant-loop-i l = (l.i ≤ 32) × (cover_of (reserved_of (drop l.i (objects_in l.h)) l.s) l.x ≡ cover_of (reserved_of (objects_in l.h) l.s) l.x)
-
-abbrev pub decreases-loop-i : goal.decreases-loop-i
-decreases-loop-i l = 32 - l.i

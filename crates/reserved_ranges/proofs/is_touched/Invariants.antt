@@ -1,4 +1,4 @@
-use Prim.Native.Nat.{◌-◌, ◌≤◌}
+use Prim.Native.Nat.{◌≤◌}
 use mathlib.Core.Path.{◌≡◌}
 use lib.ListN.{drop}
 use Rattle.lists.specs.Search.{any}
@@ -9,6 +9,3 @@ use Rattle.reserved_ranges.proofs.is_touched.Given as goal
 
 abbrev pub invariant-loop-i : goal.invariant-loop-i
 invariant-loop-i l = (l.i ≤ 32) × (any (share l.r) (reserved_of (drop l.i (objects_in l.h)) l.s) ≡ any (share l.r) (reserved_of (objects_in l.h) l.s))
-
-abbrev pub decreases-loop-i : goal.decreases-loop-i
-decreases-loop-i l = 32 - l.i

@@ -1,4 +1,4 @@
-use Prim.Native.Nat.{◌-◌, ◌≤◌}
+use Prim.Native.Nat.{◌≤◌}
 use mathlib.Core.Path.{◌≡◌}
 use lib.ListN.{drop}
 use Rattle.rules_table.specs.Spaces.{reserved_of}
@@ -9,6 +9,3 @@ use Rattle.reserved_ranges.proofs.list_touched.Given as goal
 
 abbrev pub invariant-loop-i : goal.invariant-loop-i
 invariant-loop-i l = (l.i ≤ 32) × (lists_touch (reserved_of (drop l.i (objects_in l.h)) l.s) (allowed l.l) ≡ lists_touch (reserved_of (objects_in l.h) l.s) (allowed l.l))
-
-abbrev pub decreases-loop-i : goal.decreases-loop-i
-decreases-loop-i l = 32 - l.i

@@ -5,8 +5,8 @@ use Rattle.rules_table.specs.Words.{objects_in}
 use Rattle.reserved_ranges.proofs.Stepping.{Reached}
 use Rattle.reserved_ranges.proofs.next_free.Given as goal
 
-abbrev pub invariant-loop-e : goal.invariant-loop-e
-invariant-loop-e l = Reached (reserved_of (objects_in l.h) l.s) l.from l.x
+abbrev pub invariant-loop-end : goal.invariant-loop-end
+invariant-loop-end l = Reached (reserved_of (objects_in l.h) l.s) l.from l.x
 
-abbrev pub decreases-loop-e : goal.decreases-loop-e
-decreases-loop-e l = U64END - l.x
+abbrev pub decreases-loop-end : goal.decreases-loop-end
+decreases-loop-end l = U64END - l.x

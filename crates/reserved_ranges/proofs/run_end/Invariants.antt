@@ -1,4 +1,4 @@
-use Prim.Native.Nat.{◌-◌, ◌≤◌, min}
+use Prim.Native.Nat.{◌≤◌, min}
 use mathlib.Core.Path.{◌≡◌}
 use lib.ListN.{drop}
 use Rattle.ranges.specs.Ranges.{U64MAX}
@@ -9,6 +9,3 @@ use Rattle.reserved_ranges.proofs.run_end.Given as goal
 
 abbrev pub invariant-loop-i : goal.invariant-loop-i
 invariant-loop-i l = (l.i ≤ 32) × (l.lowest ≤ U64MAX) × (min l.lowest (run_end (reserved_of (drop l.i (objects_in l.h)) l.s) l.x) ≡ run_end (reserved_of (objects_in l.h) l.s) l.x)
-
-abbrev pub decreases-loop-i : goal.decreases-loop-i
-decreases-loop-i l = 32 - l.i

@@ -15,7 +15,7 @@ pub returns-in_default : goal.returns-in_default
 returns-in_default c = standing_never _ _ (objects_in c.args.h.now) _ _ _ _ c.loop-i.i c.loop-i.invariant (omega (arith, objects-long c.args.h.now, c.loop-i-test.true)) _ _ c.sweep_slot-r.ensures c.in_default.is
 
 pub loop-i-preserved : goal.loop-i-preserved
-loop-i-preserved c = standing_on _ _ (objects_in c.args.h.now) _ _ _ _ c.loop-i.i c.loop-i.invariant (omega (arith, objects-long c.args.h.now, c.loop-i-test.true)) _ _ c.sweep_slot-r.ensures _ c.in-At.is
+loop-i-preserved c = standing_on _ _ (objects_in c.args.h.now) _ _ _ _ c.loop-i.i c.loop-i.invariant (omega (arith, objects-long c.args.h.now, c.loop-i-test.true)) _ _ c.sweep_slot-r.ensures _ c.in-Some.is
 
 pub returns : goal.returns
 returns c = standing_end _ _ (objects_in c.args.h.now) _ _ _ _ c.loop-i.i c.loop-i.invariant (omega (arith, objects-long c.args.h.now, c.loop-i-test.false))

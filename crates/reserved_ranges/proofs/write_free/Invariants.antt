@@ -5,8 +5,8 @@ use Rattle.rules_table.specs.Words.{objects_in}
 use Rattle.reserved_ranges.proofs.Writing.{Work}
 use Rattle.reserved_ranges.proofs.write_free.Given as goal
 
-abbrev pub invariant-loop-start : goal.invariant-loop-start
-invariant-loop-start l = Work (reserved_of (objects_in l.h) l.s) l.room l.k l.x l.area l.initial.area
+abbrev pub invariant-loop-free : goal.invariant-loop-free
+invariant-loop-free l = Work (reserved_of (objects_in l.h) l.s) l.room l.k l.x l.area l.initial.area
 
-abbrev pub decreases-loop-start : goal.decreases-loop-start
-decreases-loop-start l = U64END - l.x
+abbrev pub decreases-loop-free : goal.decreases-loop-free
+decreases-loop-free l = U64END - l.x

@@ -1,16 +1,16 @@
--- One law for each answer.
-use native.Mathlib.Omega.{arith}
-use Rattle.runs.proofs.Freeing.{ahead_more, ahead-less, ahead-higher, ahead_lower}
+-- Test by test.
+use borrow.Author.Tests.{lt-ltb, le-ltb, eq-eqb, ne_eqb}
+use Rattle.runs.specs.Runs.{ahead}
 use Rattle.runs.proofs.is_ahead.Goals as goal
 
 pub returns-then-l-k : goal.returns-then-l-k
-returns-then-l-k c = ahead_more _ _ _ _ (omega arith)
+unfolding ahead
+returns-then-l-k c = rw (lt-ltb _ _ c.if-l-k.true)
 
-pub returns-then-k-l : goal.returns-then-k-l
-returns-then-k-l c = ahead-less _ _ _ _ (omega arith)
+pub returns-then-l-k-2 : goal.returns-then-l-k-2
+unfolding ahead
+returns-then-l-k-2 c = rw (le-ltb _ _ c.if-l-k.false, eq-eqb _ _ c.if-l-k-2.true)
 
-pub returns-then-y-x : goal.returns-then-y-x
-returns-then-y-x c = ahead-higher _ _ _ _ (omega arith) (omega arith)
-
-pub returns : goal.returns
-returns c = ahead_lower _ _ _ _ (omega arith) (omega arith)
+pub returns-else-l-k-2 : goal.returns-else-l-k-2
+unfolding ahead
+returns-else-l-k-2 c = rw (le-ltb _ _ c.if-l-k.false, ne_eqb _ _ c.if-l-k-2.false)

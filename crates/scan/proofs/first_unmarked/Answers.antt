@@ -1,5 +1,6 @@
 use borrow.Author.Rules.{rules}
 use native.Mathlib.Omega.{arith}
+use mathlib.Core.Path.{◌≡◌, ◌∙◌}
 use Rattle.scan.proofs.Surveying.{unmarked-start, unmarked-found, unmarked-on, unmarked-end}
 use Rattle.scan.proofs.first_unmarked.Goals as goal
 
@@ -13,4 +14,4 @@ pub loop-b-preserved : goal.loop-b-preserved
 loop-b-preserved c = let a = c.args in let l = c.loop-b in (search rules, search rules, unmarked-on a.marks.now l.b l.invariant.2 (omega arith) c.if-marks-b-eq0.false)
 
 pub returns : goal.returns
-returns c = let a = c.args in let l = c.loop-b in unmarked-end a.marks.now l.b l.invariant.2 (omega arith) _ (omega (arith, l.invariant.0))
+returns c = let a = c.args in let l = c.loop-b in let e : 129 ≡ l.b = omega (arith, l.invariant.0, c.loop-b-test.false) in e ∙ unmarked-end a.marks.now l.b l.invariant.2 (omega (arith, c.loop-b-test.false)) _ (omega (arith, l.invariant.0, c.loop-b-test.false))

@@ -1,4 +1,4 @@
-use Prim.Native.Nat.{◌-◌, ◌≤◌}
+use Prim.Native.Nat.{◌≤◌}
 use mathlib.Core.Path.{◌≡◌}
 use lib.Dec.{eqb}
 use lib.ListN.{length, get_or}
@@ -8,6 +8,3 @@ use Rattle.scan.proofs.first_unmarked.Given as goal
 
 abbrev pub invariant-loop-b : goal.invariant-loop-b
 invariant-loop-b l = (l.b ≤ 129) × (length l.marks ≡ 129) × (unmarked_left l.b l.marks ≡ lowest (λ k. eqb (get_or l.marks k 0) 0) 128 1)
-
-abbrev pub decreases-loop-b : goal.decreases-loop-b
-decreases-loop-b l = 129 - l.b

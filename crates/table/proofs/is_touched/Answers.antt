@@ -1,6 +1,9 @@
--- The space and the addresses at once.
-use Rattle.table.proofs.Leaves.{touched-by}
+-- The space, then the addresses.
+use Rattle.table.proofs.Leaves.{touched-other, touched-by}
 use Rattle.table.proofs.is_touched.Goals as goal
 
-pub returns : goal.returns
-returns c = touched-by _ _ _ _ _ _ c.span_of-q.ensures c.shares.ensures c.both.ensures
+pub returns-then-m-s : goal.returns-then-m-s
+returns-then-m-s c = touched-by _ _ _ c.if-m-s.true _ _ c.span_of.ensures c.shares.ensures
+
+pub returns-else-m-s : goal.returns-else-m-s
+returns-else-m-s c = touched-other _ _ _ c.if-m-s.false

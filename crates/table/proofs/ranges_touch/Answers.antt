@@ -1,17 +1,16 @@
 -- Each range of the first list is searched for in the second.
+use Prim.Native.Nat.{ℕ, ◌<◌}
 use native.Mathlib.Omega.{arith}
-use mathlib.Core.Path.{sym, ◌∙◌}
-use Rattle.table.proofs.Touching.{touch_start, touch_found, touch_on, touch_end}
+use lib.ListN.{get_or}
+use Rattle.std.proofs.Common.{rules}
+use Rattle.std.specs.Prelude.{IsTrue, ◌↔◌, is_some}
+use Rattle.std.proofs.iter.runs.Sources.{ranges}
+use Rattle.ranges.specs.Ranges.{range}
+use Rattle.rangelists.specs.Listed.{listed, touched_from}
+use Rattle.table.proofs.Touching.{touch-told}
 use Rattle.table.proofs.ranges_touch.Goals as goal
 
-pub loop-i-init : goal.loop-i-init
-loop-i-init c = touch_start _ _
-
-pub returns-then-is_found : goal.returns-then-is_found
-returns-then-is_found c = let l = c.loop-i in touch_found _ _ _ _ (omega arith) (omega arith) l.i l.invariant _ (omega arith) c.touched_from.ensures (sym c.is_found.ensures ∙ c.if-is_found.true)
-
-pub loop-i-preserved : goal.loop-i-preserved
-loop-i-preserved c = let l = c.loop-i in touch_on _ _ _ _ (omega arith) (omega arith) l.i l.invariant _ (omega arith) c.touched_from.ensures (sym c.is_found.ensures ∙ c.if-is_found.false)
-
 pub returns : goal.returns
-returns c = let l = c.loop-i in touch_end _ _ _ _ (omega arith) (omega arith) l.i l.invariant (omega arith)
+returns c =
+    let told : IsTrue c.any.result ↔ ((k : ℕ) × (k < c.args.n) × IsTrue (is_some (touched_from (range (get_or c.args.starts.now k 0) (get_or c.args.lasts.now k 0)) 0 (listed c.args.m c.args.froms.now c.args.ends.now)))) = search (rules, ranges) in
+    touch-told _ _ _ _ (omega arith) (omega arith) _ told

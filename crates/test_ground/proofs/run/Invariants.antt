@@ -1,10 +1,6 @@
--- The place in the input grows with each record.
-use Prim.Native.Nat.{◌-◌, ◌≤◌}
-use lib.ListN.{length}
+-- Each record leaves fewer bytes.
+use Rattle.std.proofs.Common.{length}
 use Rattle.test_ground.proofs.run.Given as goal
 
-abbrev pub invariant-loop-at : goal.invariant-loop-at
-invariant-loop-at l = l.at ≤ length l.s
-
-abbrev pub decreases-loop-at : goal.decreases-loop-at
-decreases-loop-at l = length l.s - l.at
+abbrev pub decreases-loop-operation : goal.decreases-loop-operation
+decreases-loop-operation l = length l.s

@@ -1,17 +1,13 @@
--- What is left from place i on answers for the whole.
-use native.Mathlib.Omega.{arith}
-use mathlib.Core.Path.{refl}
-use Rattle.wire.specs.Fields.{zeros-failed, zeros-on, zeros-end}
+-- Told byte by byte.
+use Prim.Native.Nat.{ℕ, ◌<◌}
+use mathlib.Core.Path.{◌≡◌}
+use lib.ListN.{length, get_or}
+use Rattle.std.proofs.Common.{rules}
+use Rattle.std.specs.Prelude.{IsTrue, ◌↔◌}
+use Rattle.wire.proofs.Widths.{zeros-told}
 use Rattle.wire.proofs.all_zero.Goals as goal
 
-pub loop-i-init : goal.loop-i-init
-loop-i-init c = refl
-
-pub returns-then-b-i-ne0 : goal.returns-then-b-i-ne0
-returns-then-b-i-ne0 c = let l = c.loop-i in zeros-failed _ l.i l.invariant (omega arith) c.if-b-i-ne0.true
-
-pub loop-i-preserved : goal.loop-i-preserved
-loop-i-preserved c = let l = c.loop-i in zeros-on _ l.i l.invariant (omega arith) c.if-b-i-ne0.false
-
 pub returns : goal.returns
-returns c = let l = c.loop-i in zeros-end _ l.i l.invariant (omega arith)
+returns c =
+    let told : IsTrue c.all.result ↔ ((k : ℕ) → k < length c.args.b.now → get_or c.args.b.now k 0 ≡ 0) = search rules in
+    zeros-told _ _ told

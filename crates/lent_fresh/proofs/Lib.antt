@@ -1,2 +1,0 @@
--- What the loop of fresh has done after so many turns.
-pub mod Wiping

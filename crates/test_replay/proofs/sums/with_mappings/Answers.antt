@@ -1,7 +1,0 @@
--- A loop over the 128 records.
-use borrow.Author.Rules.{rules}
-use Rattle.lists.specs.Update.{length-mapped}
-use Rattle.test_replay.proofs.sums.with_mappings.Goals as goal
-
-pub loop-i-init : goal.loop-i-init
-loop-i-init c = (search rules, search (rules, length-mapped))
