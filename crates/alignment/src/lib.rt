@@ -6,6 +6,7 @@ ghost use Rattle.alignment.specs.Multiples.{multiple, fits, lowest_multiple};
 ghost use Rattle.alignment.specs.Pages.{smallest_page};
 
 // Whether x is a multiple of a. Of 0 only 0 is one. The page that nearly every device has is asked apart, since a remainder by a literal needs no division.
+#[tactic(auto, unfolding(crate::specs::Multiples::multiple))]
 pub fn is_multiple(a: u64, x: u64) -> bool
     ensures { result ≡ multiple a x }
 {
@@ -16,6 +17,7 @@ pub fn is_multiple(a: u64, x: u64) -> bool
 }
 
 // Whether start and start + length are multiples of a, where the sum may be 2^64. For the page that nearly every device has, one test does.
+#[tactic(auto, using(crate::proofs::Dividing::page_fits, crate::proofs::Dividing::start_off, crate::proofs::Dividing::length_tells))]
 pub fn is_fit(a: u64, start: u64, length: u64) -> bool
     ensures { result ≡ fits a start length }
 {
@@ -26,6 +28,7 @@ pub fn is_fit(a: u64, start: u64, length: u64) -> bool
 }
 
 // The lowest multiple of a from x on, if there is one below 2^64.
+#[tactic(auto, using(crate::proofs::Adding::lowest_laws))]
 pub fn lowest_multiple(a: u64, x: u64) -> Option<u64>
     ensures { result ≡ lowest_multiple a x }
 {
@@ -39,6 +42,7 @@ pub fn lowest_multiple(a: u64, x: u64) -> Option<u64>
 }
 
 // The lowest set bit of a page-size bitmap. It is 1 for 0, so that every page is a power of two.
+#[tactic(auto, using(crate::proofs::Dividing::page_none, crate::proofs::Dividing::page_some))]
 pub fn smallest_page(bitmap: u64) -> u64
     ensures { result ≡ smallest_page bitmap }
 {

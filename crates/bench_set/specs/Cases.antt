@@ -4,7 +4,7 @@ use Rattle.std.specs.Prelude.{ℕ, ◌+◌, ◌^◌, ◌≡◌, refl, true, List
 use Rattle.lists.specs.Search.{all}
 use Rattle.ranges.specs.Ranges.{U64MAX}
 use Rattle.wire.specs.Fields.{put}
-use Rattle.rangelists.specs.declared.Reserved.{Reserved}
+use Rattle.rangelists.specs.Listed.{Reserved}
 use Rattle.rules_history.specs.Calls.{Command, Bind, Attach}
 use Rattle.bench_set.specs.Rows.{Row, Case, case_holds}
 use Rattle.bench_set.specs.Computing.{running}

@@ -8,7 +8,7 @@ use lib.Dec.{leb, eqb}
 use lib.ListN.{length, drop, length-take}
 use lib.ListN as ListN
 use borrow.Author.Tests.{le-leb, eq-eqb, ne_eqb}
-use Rattle.lists.specs.Tests.{contrary, and_both, and_not_left, and_not_right}
+use Rattle.lists.specs.Tests.{and_both, and_not_left, and_not_right}
 use Rattle.lists.specs.Search.{all}
 use Rattle.lists.specs.Each.{Each-imp, Each-all, all-Each}
 use Rattle.lists.specs.Sums.{count_of, count_of-length}
@@ -22,7 +22,6 @@ use Rattle.index.specs.Agreeing.{agrees-length, agrees-padded, lists_length, num
 use Rattle.index.specs.Touched.{sits}
 use Rattle.index.specs.Verdict.{ascending, index_ok, ok-lists, ok-before, ok-agrees}
 use Rattle.index_search.specs.Indexed.{Indexed}
-use Rattle.check_index.specs.declared.Listing.{Listing}
 use Rattle.check_index.specs.Placed.{placed}
 use Rattle.check_index.specs.Listed.{zeros_from, Listed}
 use Rattle.check_index.proofs.Climbing.{used-named, placed-ends}
@@ -55,10 +54,6 @@ pub numbers_fit : (ix : List ℕ) → length (numbers_in ix) ≤ length ix
 numbers_fit ix = omega (arith, ap (λ (l : List ℕ). length l) (numbers-take ix), length-take (length (numbers_in ix)) ix)
 
 module _ (ix : List ℕ) (ms : List Mapping) where
-  -- of a bad index nothing more is told
-  bad-listed : index_ok ix ms ≡ false → (l : Listing) → l.good ≡ false → Listed ix ms l
-  bad-listed e l f = record { verdict = f ∙ sym e; indexed = λ g. contrary l.good g f }
-
   abbrev Climb : Bool
   Climb = ascending (view (numbers_in ix) ms)
 
@@ -68,35 +63,34 @@ module _ (ix : List ℕ) (ms : List Mapping) where
   abbrev Rest : Bool
   Rest = zeros (drop (length (numbers_in ix)) ix)
 
-  pub listed-short : (length ix ≡ 128 → ⊥) → (l : Listing) → l.good ≡ false → Listed ix ms l
+  pub listed-short : (length ix ≡ 128 → ⊥) → index_ok ix ms ≡ false
   unfolding index_ok
-  listed-short h = bad-listed (and_not_left (eqb (length ix) 128) (Climb && (Count && Rest)) (ne_eqb (length ix) 128 h))
+  listed-short h = and_not_left (eqb (length ix) 128) (Climb && (Count && Rest)) (ne_eqb (length ix) 128 h)
 
-  -- what the pass told
-  module _ (g : Bool) (n : ℕ) (eg : g ≡ Climb) (en : g ≡ true → n ≡ length (numbers_in ix)) where
-    pub listed-fallen : g ≡ false → (l : Listing) → l.good ≡ false → Listed ix ms l
+  pub listed-fallen : Climb ≡ false → index_ok ix ms ≡ false
+  unfolding index_ok
+  listed-fallen f = and_not_right (eqb (length ix) 128) (Climb && (Count && Rest)) (and_not_left Climb (Count && Rest) f)
+
+  -- as many numbers as the pass told
+  module _ (n : ℕ) (en : n ≡ length (numbers_in ix)) where
+    pub listed-few : (k : ℕ) → k ≡ count_of used ms → (n ≡ k → ⊥) → index_ok ix ms ≡ false
     unfolding index_ok
-    listed-fallen f = bad-listed (and_not_right (eqb (length ix) 128) (Climb && (Count && Rest)) (and_not_left Climb (Count && Rest) (sym eg ∙ f)))
+    listed-few k ek h =
+        and_not_right (eqb (length ix) 128) (Climb && (Count && Rest)) (and_not_right Climb (Count && Rest) (and_not_left Count Rest
+        (ne_eqb (length (numbers_in ix)) (count_of used ms) (λ e. h (en ∙ e ∙ sym ek)))))
 
-    module _ (t : g ≡ true) where
-      pub listed-few : (k : ℕ) → k ≡ count_of used ms → (n ≡ k → ⊥) → (l : Listing) → l.good ≡ false → Listed ix ms l
+    -- the words behind
+    module _ (from : ℕ) (b : Bool) (eb : b ≡ zeros_from from ix) (same : from ≡ n) where
+      rest-is : (c : Bool) → b ≡ c → Rest ≡ c
+      unfolding zeros_from
+      rest-is c e = sym (eb ∙ ap (λ (k : ℕ). zeros (drop k ix)) (same ∙ en)) ∙ e
+
+      pub listed-behind : b ≡ false → index_ok ix ms ≡ false
       unfolding index_ok
-      listed-few k ek h =
-          bad-listed (and_not_right (eqb (length ix) 128) (Climb && (Count && Rest)) (and_not_right Climb (Count && Rest) (and_not_left Count Rest
-          (ne_eqb (length (numbers_in ix)) (count_of used ms) (λ e. h (en t ∙ e ∙ sym ek))))))
+      listed-behind f = and_not_right (eqb (length ix) 128) (Climb && (Count && Rest)) (and_not_right Climb (Count && Rest) (and_not_right Count Rest (rest-is false f)))
 
-      -- the words behind
-      module _ (from : ℕ) (b : Bool) (eb : b ≡ zeros_from from ix) (same : from ≡ n) where
-        rest-is : (c : Bool) → b ≡ c → Rest ≡ c
-        unfolding zeros_from
-        rest-is c e = sym (eb ∙ ap (λ (k : ℕ). zeros (drop k ix)) (same ∙ en t)) ∙ e
-
-        pub listed-behind : b ≡ false → (l : Listing) → l.good ≡ false → Listed ix ms l
-        unfolding index_ok
-        listed-behind f = bad-listed (and_not_right (eqb (length ix) 128) (Climb && (Count && Rest)) (and_not_right Climb (Count && Rest) (and_not_right Count Rest (rest-is false f))))
-
-        pub listed-good : ListN.length ms ≡ 128 → all placed ms ≡ true → length ix ≡ 128 → n ≡ count_of used ms → b ≡ true → Listed ix ms record { good = g; count = n }
-        unfolding index_ok
-        listed-good many p long k f =
-            let ok : index_ok ix ms ≡ true = rw (eq-eqb (length ix) 128 long, sym eg ∙ t, eq-eqb (length (numbers_in ix)) (count_of used ms) (sym (en t) ∙ k)) (rest-is true f) in
-            record { verdict = t ∙ sym ok; indexed = λ h. rw (en t) (ok-indexed ix ms many p ok) }
+      pub listed-good : Climb ≡ true → ListN.length ms ≡ 128 → all placed ms ≡ true → length ix ≡ 128 → n ≡ count_of used ms → b ≡ true → Listed ix ms n
+      unfolding index_ok
+      listed-good t many p long k f =
+          let ok : index_ok ix ms ≡ true = rw (eq-eqb (length ix) 128 long, t, eq-eqb (length (numbers_in ix)) (count_of used ms) (sym en ∙ k)) (rest-is true f) in
+          record { verdict = ok; indexed = rw en (ok-indexed ix ms many p ok) }

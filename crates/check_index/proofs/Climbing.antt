@@ -14,7 +14,7 @@ use Rattle.rules_table.specs.declared.Mapping.{Mapping}
 use Rattle.rules_table.specs.Records.{used}
 use Rattle.rules_table.specs.Good.{when_used, length_fits, ends_fit}
 use Rattle.rules_index.specs.Index.{lex}
-use Rattle.index.specs.Listing.{lex-elim, lex-less}
+use Rattle.index.specs.Listing.{lex-less}
 use Rattle.index.specs.Touched.{before, end_of}
 use Rattle.index.specs.Verdict.{ascending}
 use Rattle.check_index.specs.Placed.{placed}
@@ -46,15 +46,6 @@ module _ (m : Mapping) (e : placed m ≡ true) (h : 0 < m.space) where
   pub end_is : (r : ℕ) → r ≡ m.address + (m.length - 1) → r ≡ end_of m
   unfolding end_of last_of
   end_is r f = omega (arith, f, placed-ends)
-
--- ---- past an address of a space
-
-module _ (a b c d : ℕ) where
-  pub lex-lower : c < a → false ≡ lex a b c d
-  lex-lower h = by-test (lex a b c d) (λ t. lex-elim a b c d t (λ k. absurd (omega arith)) (λ k l. absurd (omega arith))) (λ t. sym t)
-
-  pub lex-short : a ≡ c → d < b → false ≡ lex a b c d
-  lex-short h k = by-test (lex a b c d) (λ t. lex-elim a b c d t (λ l. absurd (omega arith)) (λ l n. absurd (omega arith))) (λ t. sym t)
 
 -- ---- a list of records
 

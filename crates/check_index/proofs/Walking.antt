@@ -7,7 +7,7 @@ use native.Mathlib.Omega.{arith}
 use lib.Dec.{eqb}
 use lib.ListN.{length, get_or, drop, drop_of_length-le}
 use borrow.Author.Tests.{eqb-true, eqb-false, ne_eqb}
-use Rattle.lists.specs.Tests.{by-test, contrary}
+use Rattle.lists.specs.Tests.{by-test}
 use Rattle.lists.specs.Search.{all, all-at, drop_turn}
 use Rattle.ranges.specs.Ranges.{U64MAX}
 use Rattle.rules_table.specs.declared.Mapping.{Mapping}
@@ -21,14 +21,12 @@ use Rattle.check_index.specs.Placed.{placed}
 use Rattle.check_index.proofs.Climbing.{climbing, climbing-is, named-used}
 
 pub record Walking (ws : List (List ℕ)) (ix : List ℕ) (space last k : ℕ) : Type 0 where
-  pub upto : k ≤ 128
   pub first : space ≡ 0 → last ≡ U64MAX
   pub rest : climbing space last (view (numbers_in (drop k ix)) (records_of ws)) ≡ ascending (view (numbers_in ix) (records_of ws))
   pub count : k + length (numbers_in (drop k ix)) ≡ length (numbers_in ix)
 
 pub walking_start : (ws : List (List ℕ)) (ix : List ℕ) (last : ℕ) → last ≡ U64MAX → Walking ws ix 0 last 0
 walking_start ws ix last e = record {
-  upto = omega arith;
   first = λ z. e;
   rest = climbing-is last (view (numbers_in ix) (records_of ws));
   count = omega arith;
@@ -38,25 +36,22 @@ module _ (ws : List (List ℕ)) (ix : List ℕ) (space last k : ℕ) (w : Walkin
   abbrev whole : Bool
   whole = ascending (view (numbers_in ix) (records_of ws))
 
-  -- what is told then
-  abbrev Told : Bool → ℕ → Type 0
-  Told good n = (good ≡ whole) × (good ≡ true → n ≡ length (numbers_in ix))
-
-  fallen : false ≡ whole → (good : Bool) (n : ℕ) → good ≡ false → Told good n
-  fallen e good n f = (f ∙ e, λ g. contrary good g f)
+  -- what is told of numbers that ascend
+  abbrev Told : ℕ → Type 0
+  Told n = (whole ≡ true) × (n ≡ length (numbers_in ix))
 
   -- no number is left
-  done : numbers_in (drop k ix) ≡ [] → Told true k
+  done : numbers_in (drop k ix) ≡ [] → Told k
   unfolding view climbing
-  done e = (sym (rw e refl) ∙ w.rest, λ g. sym (rw e (omega arith)) ∙ w.count)
+  done e = (sym (sym (rw e refl) ∙ w.rest), sym (rw e (omega arith)) ∙ w.count)
 
-  pub walking_end : length ix ≤ k → Told true k
+  pub walking_end : length ix ≤ k → Told k
   unfolding numbers_in
   walking_end h = done (ap numbers_in (drop_of_length-le ix {i = k} h))
 
   -- the number at place k
   module _ (l : k < length ix) where
-    pub walking_zero : get_or ix k 0 ≡ 0 → Told true k
+    pub walking_zero : get_or ix k 0 ≡ 0 → Told k
     unfolding numbers_in
     walking_zero e = done (rw (drop_turn ix 0 k l, e) refl)
 
@@ -71,8 +66,8 @@ module _ (ws : List (List ℕ)) (ix : List ℕ) (space last k : ℕ) (w : Walkin
       onward = sym (rw more refl) ∙ w.rest
 
       -- a number that no record has
-      pub walking_far : length ws ≡ 128 → 128 < get_or ix k 0 → (good : Bool) (n : ℕ) → good ≡ false → Told good n
-      walking_far n h = fallen (sym (rw none refl) ∙ onward)
+      pub walking_far : length ws ≡ 128 → 128 < get_or ix k 0 → whole ≡ false
+      walking_far n h = sym (sym (rw none refl) ∙ onward)
         where
           none : used (mapping_at (records_of ws) (get_or ix k 0)) ≡ false
           none =
@@ -94,8 +89,8 @@ module _ (ws : List (List ℕ)) (ix : List ℕ) (space last k : ℕ) (w : Walkin
         walking_placed p n h = rw e (all-at placed (records_of ws) zero_mapping p (get_or ix k 0 - 1) (omega (arith, ne, records-length ws, n, h)))
 
         module _ (b : Bool) (eb : b ≡ lex space (suc last) m.space m.address) where
-          pub walking_stop : b ≡ false → (good : Bool) (n : ℕ) → good ≡ false → Told good n
-          walking_stop f = fallen (sym (rw (sym eb ∙ f) (by-test (used m) (λ u. rw u refl) (λ u. rw u refl))) ∙ turn)
+          pub walking_stop : b ≡ false → whole ≡ false
+          walking_stop f = sym (sym (rw (sym eb ∙ f) (by-test (used m) (λ u. rw u refl) (λ u. rw u refl))) ∙ turn)
 
           module _ (t : b ≡ true) (top : m.address ≤ U64MAX) where
             -- past the end of space 0 there is no released record
@@ -107,9 +102,8 @@ module _ (ws : List (List ℕ)) (ix : List ℕ) (space last k : ℕ) (w : Walkin
                 (λ z. absurd (omega (arith, w.first (eqb-true space 0 z), g, top)))
                 (λ z. omega (arith, h, eqb-false space 0 z)))
 
-            pub walking_on : k < 128 → (s n : ℕ) → s ≡ m.space → n ≡ end_of m → Walking ws ix s n (k + 1)
-            walking_on h s n es en = record {
-              upto = omega arith;
+            pub walking_on : (s n : ℕ) → s ≡ m.space → n ≡ end_of m → Walking ws ix s n (k + 1)
+            walking_on s n es en = record {
               first = λ z. absurd (omega (arith, z, es, walking_used));
               rest = rw (es, en) (sym (rw (named-used m walking_used, sym eb ∙ t) refl) ∙ turn);
               count = omega (arith, w.count, ap (λ (l : List ℕ). length l) more);

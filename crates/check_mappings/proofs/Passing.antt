@@ -1,7 +1,7 @@
 -- One pass over the records in use: what was seen before place i and what is left from i on answer for the whole.
-use Rattle.std.proofs.Common.{◌≡◌, ℕ, zero, suc, ◌+◌, ◌-◌, ◌^◌, ◌<◌, ◌≤◌, Bool, true, false, ◌&&◌, List, length, get_or, drop, set, replicate, sym, refl, ap, ◌∙◌, arith}
+use Rattle.std.proofs.Common.{◌≡◌, ℕ, zero, suc, ◌+◌, ◌-◌, ◌^◌, ◌<◌, ◌≤◌, Bool, true, false, List, length, get_or, drop, set, replicate, sym, refl, ap, ◌∙◌, arith}
 use lib.ListN.{length-replicate}
-use Rattle.lists.specs.Tests.{contrary, and_both, and_not_left, and_not_right}
+use Rattle.lists.specs.Tests.{and_both, and_not_left, and_not_right}
 use Rattle.lists.specs.Search.{all, all-failed, all-on, all_end}
 use Rattle.rules_table.specs.declared.Mapping.{Mapping}
 use Rattle.rules_table.specs.Records.{zero_mapping, used}
@@ -9,9 +9,8 @@ use Rattle.rules_table.specs.Good.{differ, backings_agree}
 use Rattle.records.specs.Alone.{numbered, numbered_of, sound}
 use Rattle.records.specs.Charging.{leader_place, mark_after, added_by}
 use Rattle.layout_mappings.specs.Words.{is_empty}
-use Rattle.check_mappings.specs.declared.Pass.{Pass}
 use Rattle.check_mappings.specs.Next.{Next}
-use Rattle.check_mappings.specs.Told.{page_of, alone_by, Told}
+use Rattle.check_mappings.specs.Told.{page_of, alone_by, agreed, Told}
 use Rattle.check_mappings.proofs.Emptying.{empty-alone, full-used, full-sound}
 use Rattle.check_mappings.proofs.Marking.{Seen, here, mark_here, seen_start, seen-agree, seen-count, seen-charge, seen-firsts, backing-most, leader-most, seen-disagree, seen-on, seen_skip}
 use Rattle.check_mappings.proofs.Ruling.{Right, sound-right}
@@ -70,15 +69,6 @@ visiting_start pages ms marks i n m z x = rw z (visiting_next pages ms 0 0 (repl
 
 -- ---- the records in use
 
--- of bad records nothing more is told
-bad-told : (pages : List ℕ) (ms : List Mapping) → (all (alone_by pages) ms && backings_agree ms) ≡ false → (p : Pass) → p.good ≡ false → (marks : List ℕ) → Told pages ms p marks
-bad-told pages ms e p b marks = record {
-  good = b ∙ sym e;
-  used = λ g. contrary p.good g b;
-  charge = λ g. contrary p.good g b;
-  firsts = λ g. contrary p.good g b;
-}
-
 module _ (pages : List ℕ) (ms : List Mapping) (i count charge : ℕ) (marks : List ℕ) (w : Visiting pages ms i count charge marks) where
   v : Passing pages ms i count charge marks
   v = w.passing
@@ -94,9 +84,9 @@ module _ (pages : List ℕ) (ms : List Mapping) (i count charge : ℕ) (marks : 
         ∙ sym (full-sound pages m (ap is_empty em ∙ w.full inside))
         ∙ sym er ∙ e
 
-    pub visiting_failed : r ≡ false → (p : Pass) → p.good ≡ false → (marks : List ℕ) → Told pages ms p marks
+    pub visiting_failed : r ≡ false → agreed pages ms ≡ false
     visiting_failed e =
-        bad-told pages ms (and_not_left (all (alone_by pages) ms) (backings_agree ms) (sym (all-failed (alone_by pages) ms i v.alone zero_mapping inside (told false e))))
+        and_not_left (all (alone_by pages) ms) (backings_agree ms) (sym (all-failed (alone_by pages) ms i v.alone zero_mapping inside (told false e)))
 
     module _ (ok : r ≡ true) where
       num : numbered (here ms i) ≡ true
@@ -123,9 +113,9 @@ module _ (pages : List ℕ) (ms : List Mapping) (i count charge : ℕ) (marks : 
         apart : d ≡ differ (get_or ms (leader_place (mark_here ms marks i) i) zero_mapping) (here ms i)
         apart = ed em ∙ ap (λ (x : Mapping). differ (get_or ms (leader_place (get_or marks x.backing 0) i) zero_mapping) x) em
 
-        pub visiting_differ : d ≡ true → (p : Pass) → p.good ≡ false → (marks : List ℕ) → Told pages ms p marks
+        pub visiting_differ : d ≡ true → agreed pages ms ≡ false
         visiting_differ e =
-            bad-told pages ms (and_not_right (all (alone_by pages) ms) (backings_agree ms) (seen-disagree ms i count charge marks v.seen less num live (leader_place (mark_here ms marks i) i) d refl apart e))
+            and_not_right (all (alone_by pages) ms) (backings_agree ms) (seen-disagree ms i count charge marks v.seen less num live (leader_place (mark_here ms marks i) i) d refl apart e)
 
         pub visiting_on : d ≡ false → (more added next : ℕ) → more ≡ count + 1
             → added ≡ added_by (get_or marks m.backing 0) m → added ≤ 2 ^ 53 → next ≡ mark_after (get_or marks m.backing 0) i
@@ -140,10 +130,10 @@ module _ (pages : List ℕ) (ms : List Mapping) (i count charge : ℕ) (marks : 
             }
             x
 
-  pub visiting_end : 128 ≤ i → Told pages ms record { good = true; used = count; charge = charge } marks
+  pub visiting_end : 128 ≤ i → Told pages ms record { used = count; charge = charge } marks
   visiting_end l = record {
-    good = sym (and_both (all (alone_by pages) ms) (backings_agree ms) (sym (all_end (alone_by pages) ms i v.alone (omega (arith, v.seen.many)))) (seen-agree ms i count charge marks v.seen l));
-    used = λ g. seen-count ms i count charge marks v.seen l;
-    charge = λ g. seen-charge ms i count charge marks v.seen l;
-    firsts = λ g. seen-firsts ms i count charge marks v.seen l;
+    good = and_both (all (alone_by pages) ms) (backings_agree ms) (sym (all_end (alone_by pages) ms i v.alone (omega (arith, v.seen.many)))) (seen-agree ms i count charge marks v.seen l);
+    used = seen-count ms i count charge marks v.seen l;
+    charge = seen-charge ms i count charge marks v.seen l;
+    firsts = seen-firsts ms i count charge marks v.seen l;
   }

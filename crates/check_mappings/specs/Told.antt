@@ -22,8 +22,12 @@ page_of pages s = cond (s == 0) 0 (slice_index pages s)
 abbrev pub alone_by : List ℕ → Mapping → Bool
 alone_by pages m = record_alone (slice_index pages m.space) m
 
+-- and the records of each backing agree
+abbrev pub agreed : List ℕ → List Mapping → Bool
+agreed pages ms = all (alone_by pages) ms && backings_agree ms
+
 pub record Told (pages : List ℕ) (ms : List Mapping) (p : Pass) (marks : List ℕ) : Type 0 where
-  pub good : p.good ≡ (all (alone_by pages) ms && backings_agree ms)
-  pub used : p.good ≡ true → p.used ≡ count_of used ms
-  pub charge : p.good ≡ true → p.charge ≡ charge ms
-  pub firsts : p.good ≡ true → (b : ℕ) → 1 ≤ b → b ≤ 128 → slice_index marks b ≡ mark_of (seek (backs b) 0 ms)
+  pub good : agreed pages ms ≡ true
+  pub used : p.used ≡ count_of used ms
+  pub charge : p.charge ≡ charge ms
+  pub firsts : (b : ℕ) → 1 ≤ b → b ≤ 128 → slice_index marks b ≡ mark_of (seek (backs b) 0 ms)

@@ -1,7 +1,7 @@
 // The mapping records of a table in place, checked in one pass over those in use.
 #![tactic(auto)]
 
-ghost use Rattle.std.specs.Prelude.{◌≡◌, ◌+◌, ◌-◌, ◌^◌, ◌<◌, ◌≤◌, false, length, replicate};
+ghost use Rattle.std.specs.Prelude.{◌≡◌, ◌+◌, ◌-◌, ◌^◌, ◌<◌, ◌≤◌, true, false, MatchOption, length, replicate};
 ghost use Rattle.ranges.specs.Ranges.{U64MAX};
 ghost use Rattle.rules_table.specs.Charge.{mapping_pages};
 ghost use Rattle.rules_table.specs.Good.{differ};
@@ -9,22 +9,20 @@ ghost use Rattle.records.specs.Alone.{sound};
 ghost use Rattle.records.specs.Charging.{leader_place, mark_after, added_by};
 ghost use Rattle.layout_mappings.specs.Words.{records_of, record_at};
 ghost use Rattle.check_mappings.specs.Next.{Next};
-ghost use Rattle.check_mappings.specs.Told.{page_of, Told};
+ghost use Rattle.check_mappings.specs.Told.{page_of, agreed, Told};
 
 use rules_table::Mapping;
 
-// What one pass over the records tells: whether each keeps its own rules and the records of each backing agree. If so: how many are in use, and the pages of all backings.
+// What one pass tells of records of which each keeps its own rules and those of each backing agree: how many are in use, and the pages of all backings.
 #[derive(Clone, Copy)]
 pub struct Pass {
-    pub good: bool,
     pub used: usize,
     pub charge: u64,
 }
 
-// A record and the first of its backing: whether they differ, the pages that the record adds to the charge, and the mark of the backing after it.
+// A record that agrees with the first of its backing: the pages that it adds to the charge, and the mark of the backing after it.
 #[derive(Clone, Copy)]
 struct Standing {
-    strays: bool,
     pages: u64,
     mark: u8,
 }
@@ -113,43 +111,30 @@ fn pages_of(m: Mapping) -> u64
     (m.memory + n) / 4096 - m.memory / 4096 + 1
 }
 
-// How the record at i stands to the first of its backing, by the mark of the backing. The first itself has no mark yet, and its pages are added.
-fn standing_of(ws: &[[u64; 5]], mark: u8, i: usize, m: Mapping) -> Standing
+// How the record at i stands to the first of its backing, by the mark of the backing; None where they differ. The first itself has no mark yet, and its pages are added.
+fn standing_of(ws: &[[u64; 5]], mark: u8, i: usize, m: Mapping) -> Option<Standing>
     requires { (leader_place mark i < length ws.now) × (i < 128) × (0 < m.space) × (0 < m.length) × (m.memory + (m.length - 1) ≤ U64MAX) }
-    ensures { (m ≡ record_at ws.now i → result.strays ≡ differ (record_at ws.now (leader_place mark i)) m)
-        × (result.pages ≡ added_by mark m) × (result.pages ≤ 2 ^ 53) × (result.mark ≡ mark_after mark i) }
+    ensures { MatchOption result (m ≡ record_at ws.now i → differ (record_at ws.now (leader_place mark i)) m ≡ true)
+        (λ s. (m ≡ record_at ws.now i → differ (record_at ws.now (leader_place mark i)) m ≡ false) × (s.pages ≡ added_by mark m) × (s.pages ≤ 2 ^ 53) × (s.mark ≡ mark_after mark i)) }
 {
     if mark == 0 {
-        return Standing {
-            strays: false,
+        return Some(Standing {
             pages: pages_of(m),
             mark: (i + 1) as u8,
-        };
+        });
     }
     let leader = layout_mappings::record(ws, usize::from(mark - 1));
-    Standing {
-        strays: records::differs(leader, m),
-        pages: 0,
-        mark,
+    if records::differs(leader, m) {
+        return None;
     }
+    Some(Standing { pages: 0, mark })
 }
 
-// Of records that are not good nothing more is told.
-pub fn bad_pass() -> Pass
-    ensures { result.good ≡ false }
-{
-    Pass {
-        good: false,
-        used: 0,
-        charge: 0,
-    }
-}
-
-// One pass over the records in use, which counts them: each by itself and with the first of its backing.
+// One pass over the records in use, which counts them: each by itself and with the first of its backing. None where they are not good.
 // Place s of `pages` has the alignment of space s, and 0 where s is no space. Place b of `marks` becomes one more than the place of the first record of backing b.
-pub fn pass_over<'a>(ws: &'a [[u64; 5]], pages: &'a [u64], marks: &'a mut [u8]) -> Pass
+pub fn pass_over<'a>(ws: &'a [[u64; 5]], pages: &'a [u64], marks: &'a mut [u8]) -> Option<Pass>
     requires { (length ws.now ≡ 128) × (length pages.now ≡ 33) × (marks.old ≡ replicate 129 0) }
-    ensures { Told pages.now (records_of ws.now) result marks.new }
+    ensures { MatchOption result (agreed pages.now (records_of ws.now) ≡ false) (λ p. Told pages.now (records_of ws.now) p marks.new) }
 {
     let mut charge: u64 = 0;
     let mut used: usize = 0;
@@ -158,22 +143,15 @@ pub fn pass_over<'a>(ws: &'a [[u64; 5]], pages: &'a [u64], marks: &'a mut [u8]) 
         let m = layout_mappings::record(ws, i);
         let page = page_of(pages, m.space);
         if !is_right(page, m) {
-            return bad_pass();
+            return None;
         }
         let b = m.backing as usize;
         let mark = marks[b];
-        let standing = standing_of(ws, mark, i, m);
-        if standing.strays {
-            return bad_pass();
-        }
+        let standing = standing_of(ws, mark, i, m)?;
         charge += standing.pages;
         marks[b] = standing.mark;
         used += 1;
         i = next_used(ws, i + 1);
     }
-    Pass {
-        good: true,
-        used,
-        charge,
-    }
+    Some(Pass { used, charge })
 }

@@ -2,13 +2,13 @@
 use Rattle.std.specs.Prelude.{Option, None, Some}
 use Prim.Native.Nat.{ℕ, zero, suc, ◌+◌, ◌-◌, ◌≤◌, ◌<◌, max}
 use mathlib.Core.Path.{◌≡◌, refl, sym, ap, subst, ◌∙◌}
-use mathlib.Core.Bool.{true, false}
+use mathlib.Core.Bool.{Bool, true, false}
 use mathlib.Core.List.{List}
 use native.Mathlib.Omega.{arith}
 use lib.Dec.{ltb}
 use lib.ListN.{length, get_or, set, drop, replicate, length-set}
 use borrow.Author.Tests.{ltb-true, ltb-false}
-use Rattle.lists.specs.Tests.{by-test, contrary}
+use Rattle.lists.specs.Tests.{by-test}
 use Rattle.lists.specs.Search.{all, seek, seek_found, seek-on, seek-end}
 use Rattle.wire.specs.Fields.{zeros}
 use Rattle.rules_table.specs.declared.Kind.{Kind}
@@ -17,7 +17,6 @@ use Rattle.rules_table.specs.Records.{zero_object, free_object, is_free}
 use Rattle.rules_table.specs.Charge.{free_record}
 use Rattle.rules_table.specs.Good.{reserved_rest, allow_rest, no_device, no_list}
 use Rattle.table.specs.Checked.{object_ok, objects_ok}
-use Rattle.check_objects.specs.declared.Pass.{Pass}
 use Rattle.check_objects.specs.declared.Turn.{Turn}
 use Rattle.check_objects.specs.Pages.{slot_of, ask_of}
 use Rattle.object_rules.specs.Judged.{named_place, fits_by, judged-ok}
@@ -27,16 +26,22 @@ use Rattle.check_objects.proofs.Paging.{Kept, kept-start, kept_on, kept-skip, ke
 
 -- ---- one slot
 
-module _ (os : List Object) (i : ℕ) (many : length os ≡ 32) (t : Turn) where
+module _ (os : List Object) (i : ℕ) (many : length os ≡ 32) (k : Kind) (b : Bool) (ek : k ≡ (get_or os i zero_object).kind)
+    (eb : b ≡ fits_by (get_or os (named_place k) zero_object) (get_or os i zero_object) k) where
   -- an object judged with the one that it names
-  pub turned : (k : Kind) (w : ℕ) → k ≡ (get_or os i zero_object).kind → w ≡ (get_or os i zero_object).bitmap
-      → t.good ≡ fits_by (get_or os (named_place k) zero_object) (get_or os i zero_object) k → t.free ≡ is_free k
+  judged : (t : Bool) → b ≡ t → object_ok os (get_or os i zero_object) ≡ t
+  judged t e =
+      let same : fits_by (get_or os (named_place k) zero_object) (get_or os i zero_object) k ≡ object_ok os (get_or os i zero_object)
+      = ap (λ (n : Kind). fits_by (get_or os (named_place n) zero_object) (get_or os i zero_object) n) ek ∙ judged-ok os (get_or os i zero_object) many in
+      sym (eb ∙ same) ∙ e
+
+  pub turned-bad : b ≡ false → object_ok os (get_or os i zero_object) ≡ false
+  turned-bad = judged false
+
+  pub turned : (t : Turn) → b ≡ true → (w : ℕ) → w ≡ (get_or os i zero_object).bitmap → t.free ≡ is_free k
       → t.slot ≡ slot_of (i + 1) k → t.slot < 33 → t.page ≡ ask_of w k → Turned os i t
-  turned k w ek ew eg ef es l ep = record {
-    good =
-        eg
-        ∙ ap (λ (n : Kind). fits_by (get_or os (named_place n) zero_object) (get_or os i zero_object) n) ek
-        ∙ judged-ok os (get_or os i zero_object) many;
+  turned t e w ew ef es l ep = record {
+    good = judged true e;
     free = ef ∙ ap is_free ek;
     slot = es ∙ ap (slot_of (i + 1)) ek;
     below = l;
@@ -145,38 +150,38 @@ passing-start os pages m e j lowest x f =
 -- ---- the others
 
 module _ (os : List Object) (i : ℕ) (free : Option ℕ) (pages : List ℕ) (v : Passing os i free pages) where
-  pub passing-failed : (t : Turn) → Turned os i t → i < 32 → t.good ≡ false → (p : Pass) → p.good ≡ false → (after : List ℕ) → Passed os p after
-  passing-failed t w l e p b after =
-      let bad = ok-failed os i v.many v.ok l (sym w.good ∙ e) in
-      record { good = b ∙ bad; told = λ g. contrary false (bad ∙ g) refl }
+  pub passing-failed : object_ok os (get_or os i zero_object) ≡ false → i < 32 → objects_ok os ≡ false
+  passing-failed e l = sym (ok-failed os i v.many v.ok l e)
 
-  passing-turn : (t : Turn) → Turned os i t → i < 32 → t.good ≡ true → (q : ℕ) (here : Option ℕ) → q ≡ max (get_or pages t.slot 0) t.page
+  passing-turn : (t : Turn) → Turned os i t → i < 32 → (q : ℕ) (here : Option ℕ) → q ≡ max (get_or pages t.slot 0) t.page
       → here ≡ free_after free i t.free
       → Passing os (i + 1) here (set pages t.slot q)
-  passing-turn t w l e q here eq ef =
+  passing-turn t w l q here eq ef =
       let m : i < length os = omega (arith, v.many) in
       record {
         many = v.many;
         upto = omega (arith, l);
         room = length-set pages t.slot q ∙ v.room;
-        ok = ok-on os i v.many v.ok l (sym w.good ∙ e);
+        ok = ok-on os i v.many v.ok l w.good;
         kept = kept_on os i pages v.room v.kept t.slot t.page q m w.slot w.below w.page eq;
         lowest = rw (ef ∙ ap (free_after free i) w.free) (free-turn os i free v.lowest m);
       }
 
-  pub passing-on : (t : Turn) → Turned os i t → i < 32 → t.good ≡ true → (q : ℕ) (here : Option ℕ) → q ≡ max (get_or pages t.slot 0) t.page
+  pub passing-on : (t : Turn) → Turned os i t → i < 32 → (q : ℕ) (here : Option ℕ) → q ≡ max (get_or pages t.slot 0) t.page
       → here ≡ free_after free i t.free
       → (j a b : ℕ) (lowest : Option ℕ) → Next os (i + 1) j → lowest ≡ free_to here a b → a ≡ i + 1 → b ≡ j
       → Passing os j lowest (set pages t.slot q)
-  passing-on t w l e q here eq ef j a b lowest x f ea eb =
-      passing-next os (i + 1) j here lowest (set pages t.slot q) (passing-turn t w l e q here eq ef) x (f ∙ rw (ea, eb))
+  passing-on t w l q here eq ef j a b lowest x f ea eb =
+      passing-next os (i + 1) j here lowest (set pages t.slot q) (passing-turn t w l q here eq ef) x (f ∙ rw (ea, eb))
 
-  pub passing-end : 32 ≤ i → Passed os record { good = true; free = free } pages
+  pub passing-end : 32 ≤ i → Passed os record { free = free } pages
   passing-end l =
       let past : length os ≤ i = omega (arith, v.many) in
+      let good : objects_ok os ≡ true = sym (ok_end os i v.ok past) in
       record {
-        good = ok_end os i v.ok past;
-        told = λ g. (free-last os i free v.lowest past, kept-end os i pages v.room v.kept v.many past g);
+        good = good;
+        free = free-last os i free v.lowest past;
+        aligned = kept-end os i pages v.room v.kept v.many past good;
       }
 
 pub pages-long : (pages : List ℕ) → pages ≡ replicate 33 0 → length pages ≡ 33

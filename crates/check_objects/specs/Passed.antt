@@ -8,9 +8,9 @@ use Rattle.check_objects.specs.declared.Pass.{Pass}
 use Rattle.check_objects.specs.declared.Turn.{Turn}
 use Rattle.check_objects.specs.Pages.{Pages, slot_of, ask_of}
 
--- of the object in slot i
+-- of the good object in slot i
 pub record Turned (os : List Object) (i : ℕ) (t : Turn) : Type 0 where
-  pub good : t.good ≡ object_ok os (get_or os i zero_object)
+  pub good : object_ok os (get_or os i zero_object) ≡ true
   pub free : t.free ≡ is_free (get_or os i zero_object).kind
   pub slot : t.slot ≡ slot_of (i + 1) (get_or os i zero_object).kind
   pub below : t.slot < 33
@@ -22,10 +22,11 @@ pub record Next (os : List Object) (i j : ℕ) : Type 0 where
   pub upto : j ≤ 32
   pub released : (k : ℕ) → i ≤ k → k < j → get_or os k zero_object ≡ free_object
 
--- of any objects: whether they are good; of good ones the lowest free slot, and the pages of the spaces
+-- of good objects: the lowest free slot, and the pages of the spaces
 pub record Passed (os : List Object) (p : Pass) (pages : List ℕ) : Type 0 where
-  pub good : p.good ≡ objects_ok os
-  pub told : objects_ok os ≡ true → (p.free ≡ free_record os) × Pages os pages
+  pub good : objects_ok os ≡ true
+  pub free : p.free ≡ free_record os
+  pub aligned : Pages os pages
 
 -- the lowest free slot, with slot i seen
 abbrev pub free_after : Option ℕ → ℕ → Bool → Option ℕ

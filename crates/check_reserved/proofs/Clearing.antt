@@ -1,19 +1,17 @@
 -- One reserved range against all records; one slot after another.
-use Prim.Native.Nat.{ℕ, ◌+◌, ◌≤◌, ◌<◌, min}
+use Prim.Native.Nat.{ℕ, ◌+◌, ◌≤◌, ◌<◌}
 use mathlib.Core.Path.{◌≡◌, refl, sym, ap, ◌∙◌}
 use mathlib.Core.Bool.{Bool, true, false, not, ◌&&◌, ◌||◌, cond}
 use mathlib.Core.List.{List, [], ◌∷◌, ◌++◌}
-use native.Mathlib.Omega.{arith}
 use lib.Dec.{eqb}
 use lib.ListN.{length, get_or, drop}
 use borrow.Author.Tests.{eqb-true, eqb-false, eq-eqb, ne_eqb, not-true, not-false}
 use Rattle.lists.specs.Tests.{by-test, or_right, and_not_right}
-use Rattle.lists.specs.Search.{any, all, any-cons, any-nil, any_append, any_found, any-on, any-end, any-cong, all-cong, all-and, all-not}
+use Rattle.lists.specs.Search.{any, all, any-cons, any-nil, any_append, any_found, any-on, any-cong, all-cong, all-and, all-not}
 use Rattle.lists.specs.Each.{Each-of, all-Each}
 use Rattle.ranges.specs.declared.Range.{Range}
-use Rattle.ranges.specs.Ranges.{range, share, share-comm}
-use Rattle.rangelists.specs.declared.Reserved.{Reserved}
-use Rattle.rangelists.specs.Listed.{reserved, length-listed, get_d_listed, zero_range}
+use Rattle.ranges.specs.Ranges.{share, share-comm}
+use Rattle.rangelists.specs.Listed.{reserved, zero_range}
 use Rattle.rules_table.specs.declared.Kind.{Kind}
 use Rattle.rules_table.specs.declared.Object.{Object}
 use Rattle.rules_table.specs.declared.Mapping.{Mapping}
@@ -47,31 +45,12 @@ module _ (s : ℕ) (r : Range) (ms : List Mapping) where
 
 -- ---- a list of ranges, at place i
 
-module _
-    (p : Range → Bool)
-    (l : Reserved)
-    (n i : ℕ)
-    (hn : n ≡ min l.count 4)
-    (hs : length l.starts ≡ 4)
-    (hl : length l.lasts ≡ 4)
-    {k : Bool}
-    (v : any p (drop i (reserved l)) ≡ k) where
-  counted : length (reserved l) ≡ n
-  unfolding reserved
-  counted = length-listed (min l.count 4) l.starts l.lasts (omega arith) (omega arith) ∙ sym hn
+module _ (p : Range → Bool) (rs : List Range) (i : ℕ) {k : Bool} (v : any p (drop i rs) ≡ k) (q : Range) (eq : q ≡ get_or rs i zero_range) (h : i < length rs) where
+  pub list_found : p q ≡ true → true ≡ k
+  list_found e = any_found p rs i v zero_range h (ap p (sym eq) ∙ e)
 
-  at_place : i < n → get_or (reserved l) i zero_range ≡ range (get_or l.starts i 0) (get_or l.lasts i 0)
-  unfolding reserved
-  at_place h = get_d_listed (min l.count 4) l.starts l.lasts (omega arith) (omega arith) i (omega arith)
-
-  pub list_found : i < n → p (range (get_or l.starts i 0) (get_or l.lasts i 0)) ≡ true → true ≡ k
-  list_found h e = any_found p (reserved l) i v zero_range (rw counted h) (ap p (at_place h) ∙ e)
-
-  pub list_on : i < n → p (range (get_or l.starts i 0) (get_or l.lasts i 0)) ≡ false → any p (drop (i + 1) (reserved l)) ≡ k
-  list_on h e = any-on p (reserved l) i v zero_range (rw counted h) (ap p (at_place h) ∙ e)
-
-  pub list_end : n ≤ i → false ≡ k
-  list_end h = any-end p (reserved l) i v (rw counted h)
+  pub list_on : p q ≡ false → any p (drop (i + 1) rs) ≡ k
+  list_on e = any-on p rs i v zero_range h (ap p (sym eq) ∙ e)
 
 -- ---- all records
 
@@ -151,13 +130,13 @@ module _ (o : Object) (ms : List Mapping) (k : Kind) (b : Bool) (ek : k ≡ o.ki
   unfolding reserved_for
   slot_loose h = sym (clear_none (λ s. reserved_for s o) ms (λ s. rw (attached-is false (not-true b h))))
 
-  pub slot-attached : (s : ℕ) (l : Reserved) (c : Bool) → not b ≡ false → s ≡ home_of k → l ≡ o.reserved
-      → c ≡ any (λ r. any (strikes s r) ms) (reserved l) → not c ≡ clear_by (λ s. reserved_for s o) ms
+  pub slot-attached : (s : ℕ) (rs : List Range) (c : Bool) → not b ≡ false → s ≡ home_of k → rs ≡ reserved o.reserved
+      → c ≡ any (λ r. any (strikes s r) ms) rs → not c ≡ clear_by (λ s. reserved_for s o) ms
   unfolding reserved_for
-  slot-attached s l c h es el ec =
+  slot-attached s rs c h es el ec =
       ap (λ (d : Bool). not d) ec
-      ∙ sym (clear-list s (reserved l) ms)
-      ∙ clear-cong (at s (reserved l)) (λ t. reserved_for t o) ms
+      ∙ sym (clear-list s rs ms)
+      ∙ clear-cong (at s rs) (λ t. reserved_for t o) ms
       (λ t. rw (attached-is true (not-false b h), el, es, ek) refl)
 
 -- ---- all slots, at slot i: what is left answers for the whole

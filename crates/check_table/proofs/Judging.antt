@@ -1,4 +1,5 @@
 -- The verdict as facts, so that the code may ask them one after the other.
+use Rattle.std.specs.Prelude.{Option, None, Some}
 use Prim.Native.Nat.{ℕ, ◌≤◌, ◌<◌, ◌^◌}
 use mathlib.Core.Path.{◌≡◌, sym, ap, ◌∙◌}
 use mathlib.Core.Bool.{Bool, true, false, not, ◌&&◌, ◌||◌}
@@ -10,24 +11,22 @@ use lib.ListN as ListN
 use borrow.Author.Tests.{leb-true, le-leb, eqb-true, eq-eqb}
 use Rattle.lists.specs.Tests.{by-test, contrary, and_left, and_right, and_both}
 use Rattle.lists.specs.Search.{all, all-and, all-cong, all-mono}
-use Rattle.lists.specs.Sums.{count_of}
 use Rattle.rules_table.specs.declared.Object.{Object}
 use Rattle.rules_table.specs.declared.Mapping.{Mapping}
 use Rattle.rules_table.specs.Records.{used, can_write}
 use Rattle.rules_table.specs.Spaces.{reserved_of}
-use Rattle.rules_table.specs.Charge.{charge}
+use Rattle.rules_table.specs.Charge.{charge, free_record}
 use Rattle.rules_table.specs.Good.{when_used, clear_of, length_fits, rights_fit, ends_fit, aligned_to, mapping_zero, backings_agree, records_counted, limit_holds, good}
 use Rattle.table.specs.Checked.{objects_ok, record_ok, records_ok, page_at, record_alone, record_split}
 use Rattle.table.specs.Sound.{good-sound}
 use Rattle.rules_calls.specs.Gate.{table_with}
 use Rattle.rules_index.specs.Index.{agrees}
 use Rattle.index.specs.Verdict.{table_ok, index_ok, verdict-linear}
-use Rattle.check_objects.specs.declared.Pass.{Pass as Objects}
-use Rattle.check_index.specs.declared.Listing.{Listing}
+use Rattle.check_objects.specs.Pages.{Pages}
 use Rattle.check_index.specs.Placed.{placed}
 use Rattle.check_index.specs.Listed.{Listed}
 use Rattle.check_mappings.specs.declared.Pass.{Pass}
-use Rattle.check_mappings.specs.Told.{alone_by}
+use Rattle.check_mappings.specs.Told.{alone_by, agreed}
 use Rattle.check_table.specs.Known.{Passes, Judged, Checked}
 
 -- each record by itself, and clear of what is reserved
@@ -106,86 +105,81 @@ alone-placed page m e = by-test (used m) (λ u. rw u (fits (rw u at e))) (λ u. 
 
 -- ---- what the passes told, and each test after them
 
-module _ (limit : ℕ) (os : List Object) (ms : List Mapping) (ix : List ℕ) (d : Objects) (p : Pass) (w : Passes os ms d p) where
-  refused : (Facts limit os ms ix → ⊥) → (l : Listing) → l.good ≡ false → Judged limit os ms ix l
-  refused h l e = record {
-    verdict = by-test (good (table_with limit os ms) && agrees ix ms) (λ t. absurd (h (facts_of limit os ms ix t))) (λ t. e ∙ sym t);
-    indexed = λ g. contrary l.good g e;
-  }
+module _ (limit : ℕ) (os : List Object) (ms : List Mapping) (ix : List ℕ) where
+  failed : (Facts limit os ms ix → ⊥) → false ≡ (good (table_with limit os ms) && agrees ix ms)
+  failed h = by-test (good (table_with limit os ms) && agrees ix ms) (λ t. absurd (h (facts_of limit os ms ix t))) (λ t. sym t)
 
-  pub objects-bad : d.good ≡ false → (l : Listing) → l.good ≡ false → Judged limit os ms ix l
-  objects-bad e = refused (λ f. contrary d.good (w.objects.good ∙ f.objects) e)
+  unchecked : (Facts limit os ms ix → ⊥) → (pages marks : List ℕ) → Checked limit os ms ix pages marks None
+  unchecked h pages marks = record { verdict = failed h; known = tt }
+
+  refused : (Facts limit os ms ix → ⊥) → Judged limit os ms ix None
+  refused h = record { verdict = failed h; indexed = tt }
+
+  pub objects-bad : objects_ok os ≡ false → (pages marks : List ℕ) → Checked limit os ms ix pages marks None
+  objects-bad e = unchecked (λ f. contrary (objects_ok os) f.objects e)
 
   -- the alignments of the spaces, looked up
-  alone-by : objects_ok os ≡ true → all (alone_by w.pages) ms ≡ Alone os ms
-  alone-by o = all-cong (alone_by w.pages) (λ m. record_alone (page_at os m.space) m) ms (λ m. ap (λ (n : ℕ). record_alone n m) ((w.objects.told o).1.page m.space))
+  alone-by : (pages : List ℕ) → Pages os pages → all (alone_by pages) ms ≡ Alone os ms
+  alone-by pages a = all-cong (alone_by pages) (λ m. record_alone (page_at os m.space) m) ms (λ m. ap (λ (n : ℕ). record_alone n m) (a.page m.space))
 
-  records-are : Facts limit os ms ix → p.good ≡ true
-  records-are f = w.mappings.good ∙ rw (alone-by f.objects, f.alone, f.agree)
+  pub records-bad : (pages : List ℕ) → Pages os pages → agreed pages ms ≡ false → (marks : List ℕ) → Checked limit os ms ix pages marks None
+  records-bad pages a e = unchecked (λ f. contrary (agreed pages ms) (rw (alone-by pages a, f.alone, f.agree)) e) pages
 
-  pub records-bad : p.good ≡ false → (l : Listing) → l.good ≡ false → Judged limit os ms ix l
-  records-bad e = refused (λ f. contrary p.good (records-are f) e)
+  pub judged-bad : Judged limit os ms ix None → (pages marks : List ℕ) → Checked limit os ms ix pages marks None
+  judged-bad j pages marks = record { verdict = j.verdict; known = tt }
 
-  module _ (g : d.good ≡ true) (q : p.good ≡ true) where
-    pub limit-low : limit < p.charge → (l : Listing) → l.good ≡ false → Judged limit os ms ix l
-    limit-low h = refused (λ f. omega (arith, f.charged, w.mappings.charge q, h))
+  module _ (p : Pass) (w : Passes os ms p) where
+    pub limit-low : limit < p.charge → Judged limit os ms ix None
+    limit-low h = refused (λ f. omega (arith, f.charged, w.mappings.charge, h))
 
-    pub limit-high : 2 ^ 36 < limit → (l : Listing) → l.good ≡ false → Judged limit os ms ix l
+    pub limit-high : 2 ^ 36 < limit → Judged limit os ms ix None
     limit-high h = refused (λ f. omega (arith, f.most, h))
 
     -- what the check of the index asks first
     pub records-placed : all placed ms ≡ true
     records-placed =
         all-mono (alone_by w.pages) placed ms (λ m. alone-placed (get_or w.pages m.space 0) m)
-        (and_left (all (alone_by w.pages) ms) (backings_agree ms) (sym w.mappings.good ∙ q))
+        (and_left (all (alone_by w.pages) ms) (backings_agree ms) w.mappings.good)
 
-    pub records-used : p.used ≡ count_of used ms
-    records-used = w.mappings.used q
+    pub index-bad : index_ok ix ms ≡ false → Judged limit os ms ix None
+    index-bad b = refused (λ f. contrary (index_ok ix ms) f.index b)
 
-    module _ (l : Listing) (e : Listed ix ms l) where
-      pub index-bad : l.good ≡ false → (k : Listing) → k.good ≡ false → Judged limit os ms ix k
-      index-bad b = refused (λ f. contrary l.good (e.verdict ∙ f.index) b)
+    module _ (r : Bool) (cleared : r ≡ Clear os ms) where
+      pub reserved-bad : r ≡ false → Judged limit os ms ix None
+      reserved-bad b = refused (λ f. contrary r (cleared ∙ f.clear) b)
 
-      module _ (t : l.good ≡ true) (r : Bool) (cleared : r ≡ Clear os ms) where
-        pub reserved-bad : r ≡ false → (k : Listing) → k.good ≡ false → Judged limit os ms ix k
-        reserved-bad b = refused (λ f. contrary r (cleared ∙ f.clear) b)
+      -- every test was passed
+      pub all-good : (n : ℕ) → Listed ix ms n → r ≡ true → ListN.length ms ≡ 128 → ListN.length os ≡ 32 → limit ≤ 2 ^ 36 → p.charge ≤ limit
+          → Judged limit os ms ix (Some n)
+      all-good n e k many o m c = record {
+        verdict = sym (of_facts limit os ms ix record {
+          objects = w.objects;
+          alone = sym (alone-by w.pages w.aligned) ∙ and_left (all (alone_by w.pages) ms) (backings_agree ms) w.mappings.good;
+          clear = sym cleared ∙ k;
+          agree = and_right (all (alone_by w.pages) ms) (backings_agree ms) w.mappings.good;
+          many = many;
+          places = o;
+          most = m;
+          charged = omega (arith, w.mappings.charge, c);
+          index = e.verdict;
+        });
+        indexed = e.indexed;
+      }
 
-        -- every test was passed
-        pub all-good : r ≡ true → ListN.length ms ≡ 128 → ListN.length os ≡ 32 → limit ≤ 2 ^ 36 → p.charge ≤ limit → Judged limit os ms ix l
-        all-good k n o m c =
-            let o2 : objects_ok os ≡ true = sym w.objects.good ∙ g in
-            let both = sym w.mappings.good ∙ q in
-            record {
-              verdict = t ∙ sym (of_facts limit os ms ix record {
-                objects = o2;
-                alone = sym (alone-by o2) ∙ and_left (all (alone_by w.pages) ms) (backings_agree ms) both;
-                clear = sym cleared ∙ k;
-                agree = and_right (all (alone_by w.pages) ms) (backings_agree ms) both;
-                many = n;
-                places = o;
-                most = m;
-                charged = omega (arith, w.mappings.charge q, c);
-                index = sym e.verdict ∙ t;
-              });
-              indexed = e.indexed;
-            }
-
-  -- what is handed on of a good table
-  module _ (n : ListN.length ms ≡ 128) (marked : ListN.length w.marks ≡ 129) (l : Listing) (j : Judged limit os ms ix l) where
-    pub is-checked : Checked limit os ms ix w.pages w.marks record { good = l.good; object = d.free; mappings = p; listed = l.count }
-    is-checked = record {
-      verdict = j.verdict;
-      known = λ e.
-          let f = facts_of limit os ms ix (sym j.verdict ∙ e) in
-          record {
-            objects = f.objects;
-            records = (good-sound (table_with limit os ms) (and_left (good (table_with limit os ms)) (agrees ix ms) (sym j.verdict ∙ e))).records;
-            many = n;
-            object = (w.objects.told f.objects).0;
-            aligned = (w.objects.told f.objects).1;
+    -- what is handed on of a good table
+    pub is-checked : ListN.length ms ≡ 128 → ListN.length w.marks ≡ 129 → (object : Option ℕ) → object ≡ free_record os → (n : ℕ) → Judged limit os ms ix (Some n)
+        → Checked limit os ms ix w.pages w.marks (Some (record { object = object; mappings = p; listed = n }))
+    is-checked many marked object e n j =
+        record {
+          verdict = j.verdict;
+          known = record {
+            objects = w.objects;
+            records = (good-sound (table_with limit os ms) (and_left (good (table_with limit os ms)) (agrees ix ms) (sym j.verdict))).records;
+            many = many;
+            object = e;
+            aligned = w.aligned;
             marked = marked;
-            good = records-are f;
             told = w.mappings;
-            indexed = j.indexed e;
+            indexed = j.indexed;
           };
-    }
+        }

@@ -1,16 +1,18 @@
 -- What the check has found of a good table: everything that a call asks of the table as a whole.
-use Rattle.std.specs.Prelude.{ℕ, suc, ◌<◌, max, ◌≡◌, refl, true, false, cond, ◌&&◌, List, [], ◌∷◌, eqb, length}
+use Rattle.std.specs.Prelude.{ℕ, zero, suc, ◌<◌, max, ◌≡◌, refl, true, false, cond, ◌&&◌, List, [], ◌∷◌, eqb, length, Option, is_some, IfSome}
 use Rattle.std.proofs.Common.{sym, ap, ◌∙◌, arith, eqb-true}
 use Rattle.std.proofs.Math.ListN.{get_or}
+use Rattle.std.proofs.Props.{props}
+use Rattle.std.specs.Coded.{×_prop, Unit-prop}
 use Rattle.lists.specs.Tests.{by-test, contrary, and_left}
 use Rattle.lists.specs.Search.{all-at}
 use Rattle.lists.specs.Each.{Each}
-use Rattle.rules_table.specs.declared.Attachment.TheVariants.{Loose, Attached}
 use Rattle.rules_table.specs.declared.Object.{Object}
 use Rattle.rules_table.specs.declared.Mapping.{Mapping}
 use Rattle.alignment.specs.Pages.{smallest_page}
 use Rattle.alignment.specs.Highest.{highest}
 use Rattle.rules_table.specs.declared.Kind.{Kind}
+use Rattle.rules_table.specs.declared.Attachment.TheVariants.{Loose, Attached}
 use Rattle.rules_table.specs.declared.Kind.TheVariants.{Free, Space, Device}
 use Rattle.rules_table.specs.Records.{object_at, space_at, attached_to, zero_object}
 use Rattle.rules_table.specs.Spaces.{page_for, alignment}
@@ -24,25 +26,23 @@ use Rattle.table.specs.Aligned.{alignment-pos}
 use Rattle.table.specs.Checked.{object_ok, objects_ok, record_ok, kind_names, page_at}
 use Rattle.rules_index.specs.Index.{agrees}
 use Rattle.index_search.specs.Indexed.{Indexed}
-use Rattle.check_objects.specs.declared.Pass.{Pass as Objects}
 use Rattle.check_objects.specs.Pages.{Pages}
-use Rattle.check_objects.specs.Passed.{Passed}
-use Rattle.check_index.specs.declared.Listing.{Listing}
 use Rattle.check_mappings.specs.declared.Pass.{Pass}
 use Rattle.check_mappings.specs.Told.{Told, page_of}
 use Rattle.check_table.specs.declared.Findings.{Findings}
 
--- what the passes over the objects and over the mapping records told
-pub record Passes (os : List Object) (ms : List Mapping) (d : Objects) (p : Pass) : Type 0 where
+-- what the passes over good objects and over good mapping records told
+pub record Passes (os : List Object) (ms : List Mapping) (p : Pass) : Type 0 where
   pub pages : List ℕ
   pub marks : List ℕ
-  pub objects : Passed os d pages
+  pub objects : objects_ok os ≡ true
+  pub aligned : Pages os pages
   pub mappings : Told pages ms p marks
 
 -- the verdict, and of a good one all that a search of the index asks
-pub record Judged (limit : ℕ) (os : List Object) (ms : List Mapping) (ix : List ℕ) (l : Listing) : Type 0 where
-  pub verdict : l.good ≡ (good (table_with limit os ms) && agrees ix ms)
-  pub indexed : l.good ≡ true → Indexed l.count ix ms
+pub record Judged (limit : ℕ) (os : List Object) (ms : List Mapping) (ix : List ℕ) (o : Option ℕ) : Type 0 where
+  pub verdict : is_some o ≡ (good (table_with limit os ms) && agrees ix ms)
+  pub indexed : IfSome o (λ n. Indexed n ix ms)
 
 -- good objects and 128 records that keep their rules; the lowest free object record, the alignments of the spaces, the pass over the records with the marks of the backings, the index
 pub record Known (os : List Object) (ms : List Mapping) (ix pages marks : List ℕ) (f : Findings) : Type 0 where
@@ -52,13 +52,17 @@ pub record Known (os : List Object) (ms : List Mapping) (ix pages marks : List �
   pub object : f.object ≡ free_record os
   pub aligned : Pages os pages
   pub marked : length marks ≡ 129
-  pub good : f.mappings.good ≡ true
   pub told : Told pages ms f.mappings marks
   pub indexed : Indexed f.listed ix ms
 
-pub record Checked (limit : ℕ) (os : List Object) (ms : List Mapping) (ix pages marks : List ℕ) (f : Findings) : Type 0 where
-  pub verdict : f.good ≡ (good (table_with limit os ms) && agrees ix ms)
-  pub known : f.good ≡ true → Known os ms ix pages marks f
+-- no two proofs of it differ
+pub kept-prop : (os : List Object) (ms : List Mapping) → IsProp (Each (λ m. record_ok os m ≡ true) ms)
+kept-prop os [] = Unit-prop
+kept-prop os (m ∷ ms) = ×_prop (Prim.hlevel props) (kept-prop os ms)
+
+pub record Checked (limit : ℕ) (os : List Object) (ms : List Mapping) (ix pages marks : List ℕ) (o : Option Findings) : Type 0 where
+  pub verdict : is_some o ≡ (good (table_with limit os ms) && agrees ix ms)
+  pub known : IfSome o (λ f. Known os ms ix pages marks f)
 
 no-page : (os : List Object) → 0 ≡ page_at os 0
 unfolding page_at space_at object_at
@@ -68,6 +72,11 @@ no-page os = refl
 pub page-is : (os : List Object) (pages : List ℕ) → Pages os pages → (s : ℕ) → page_of pages s ≡ page_at os s
 unfolding page_of
 page-is os pages h s = by-test (eqb s 0) (λ e. rw e (no-page os ∙ ap (page_at os) (sym (eqb-true s 0 e)))) (λ e. rw e (h.page s))
+
+-- an id with an alignment is that of a space: 0 is none
+pub page-some : (os : List Object) (s t r : ℕ) → r ≡ page_at os s → s ≡ t → 0 < r → 0 < t
+page-some os zero t r e q h = absurd (omega (arith, e ∙ sym (no-page os), h))
+page-some os (suc s) t r e q h = omega (arith, q)
 
 -- ---- the alignment of an id that is no space is 1: no device of a good table is attached to it
 

@@ -1,1 +1,1 @@
--- No definitions: a list of checks is defined in lists.
+pub mod Refused

@@ -1,12 +1,12 @@
 -- COPY, one law for each return.
-use Rattle.std.specs.Prelude.{is_some, Option}
+use Rattle.std.specs.Prelude.{Option, None, Some}
 use Prim.Native.Nat.{ℕ}
-use mathlib.Core.Path.{◌≡◌, refl, sym, ap, ◌∙◌}
+use mathlib.Core.Path.{◌≡◌, sym, ap, ◌∙◌}
 use mathlib.Core.Bool.{Bool, true, false, not, ◌&&◌}
 use mathlib.Core.List.{List, [], ◌∷◌, ◌++◌}
 use native.Mathlib.Omega.{arith}
 use lib.Dec.{eqb}
-use Rattle.lists.specs.Checks.{Check, when, first, Refusals}
+use Rattle.lists.specs.Checks.{Check, when, first}
 use Rattle.rules_table.specs.Flags.{unknown, fixed, writeable}
 use Rattle.rules_table.specs.declared.Object.{Object}
 use Rattle.rules_table.specs.declared.Mapping.{Mapping}
@@ -19,10 +19,10 @@ use Rattle.landing.specs.declared.Target.{Target}
 use Rattle.rules_reasons.specs.declared.Reason.{Reason}
 use Rattle.rules_reasons.specs.declared.Reason.TheVariants.{Accepted, SourcePasses, NoSpace, NoSourceSpace, NoSource, NotWriteable, NoRecord}
 use Rattle.rules_reasons.specs.Reasons.{named, place_names, record_names, copy_names, copy_reason}
-use Rattle.reason_words.specs.Words.{Short, Tells, code_refuses}
+use Rattle.reason_words.specs.Words.{Tells}
 use Rattle.reason_place.specs.Told.{place_reason}
 use Rattle.cmd_explain.specs.Numbered.{number_checks, copy_reason_at}
-use Rattle.cmd_explain.proofs.Naming.{checked-last, stage_refused, stage_passed, check-fires, check-passes, short-first, places-append, places-refuse}
+use Rattle.cmd_explain.proofs.Naming.{stops, goes, stage_refused, stage_passed, check-fires, check-passes, short-first, places-append, places-refuse}
 
 module _ (os : List Object) (ms : List Mapping) (t : Target) (source from : ℕ) where
   abbrev why : Reason
@@ -55,23 +55,24 @@ module _ (os : List Object) (ms : List Mapping) (t : Target) (source from : ℕ)
       ap (λ (cs : List (Check Reason)). first (numbers ++ (when (not (space_at os t.space)) NoSpace ∷ when (not (space_at os source)) NoSourceSpace ∷ when (is_none named-source) NoSource ∷ when denied NotWriteable ∷ cs)) Accepted)
       (places-append os ms t.space (fixed t.flags) t.length t.address (record_checks (free_mapping ms)) record_names)
 
-  refuse : Refusals numbers Accepted
-  refuse = (code_refuses _ (λ y. omega (arith, y)), (code_refuses _ (λ y. omega (arith, y)), (code_refuses _ (λ y. omega (arith, y)), (code_refuses _ (λ y. omega (arith, y)), (code_refuses _ (λ y. omega (arith, y)), tt)))))
+  module _ (u : Bool) (eu : u ≡ unknown 3 t.flags) where
+    -- the checks on the numbers, by what the code found of the flags
+    abbrev found : Bool → List (Check Reason)
+    found b = number_checks b t.flags t.length t.address from SourcePasses
 
-  module _ (u : Bool) (eu : u ≡ unknown 3 t.flags) (w : Reason) (ew : w ≡ first (number_checks u t.flags t.length t.address from SourcePasses) Accepted) where
-    numbers-is : w ≡ first numbers Accepted
-    numbers-is = ew ∙ ap (λ (b : Bool). first (number_checks b t.flags t.length t.address from SourcePasses) Accepted) eu
+    same : (q : Reason) → first (found u) q ≡ first numbers q
+    same q = ap (λ (b : Bool). first (found b) q) eu
 
     -- the numbers refuse
-    pub by-numbers : (w ≡ Accepted → ⊥) → Tells why w
-    by-numbers h = record {
-      reason = stage_refused why numbers spaces w why-is numbers-is h;
-      short = short-first numbers w numbers-is (omega arith, (omega arith, (omega arith, (omega arith, (omega arith, tt)))));
+    pub by-numbers : (r : Reason) → ((q : Reason) → r ≡ first (found u) q) → Tells why r
+    by-numbers r h = record {
+      reason = stops numbers spaces r (λ q. h q ∙ same q) ∙ sym why-is;
+      short = short-first numbers r (h Accepted ∙ same Accepted) (omega arith, (omega arith, (omega arith, (omega arith, (omega arith, tt)))));
     }
 
-    module _ (zw : w ≡ Accepted) where
+    module _ (passed : (q : Reason) → q ≡ first (found u) q) where
       at_target : why ≡ first spaces Accepted
-      at_target = stage_passed why numbers spaces w why-is refuse numbers-is zw
+      at_target = why-is ∙ goes numbers spaces (λ q. passed q ∙ same q)
 
       -- no target space
       pub by-target : space_at os t.space ≡ false → Tells why NoSpace
@@ -85,23 +86,23 @@ module _ (os : List Object) (ms : List Mapping) (t : Target) (source from : ℕ)
         pub by-origin : space_at os source ≡ false → Tells why NoSourceSpace
         by-origin g = record { reason = check-fires why (not (space_at os source)) NoSourceSpace sources at-origin (ap (λ (b : Bool). not b) g); short = omega arith }
 
-        module _ (g : space_at os source ≡ true) (o : Option Mapping) (eo : o ≡ named-source) (m : Bool) (em : m ≡ is_none o) where
+        module _ (g : space_at os source ≡ true) (o : Option Mapping) (eo : o ≡ named-source) where
           at_source : why ≡ first sources Accepted
           at_source = check-passes why (not (space_at os source)) NoSourceSpace sources at-origin (ap (λ (b : Bool). not b) g)
 
-          missing_is : (b : Bool) → m ≡ b → is_none named-source ≡ b
-          missing_is b e = sym (em ∙ ap (λ (q : Option Mapping). is_none q) eo) ∙ e
+          missing_is : (q : Option Mapping) → o ≡ q → is_none named-source ≡ is_none q
+          missing_is q e = ap (λ (x : Option Mapping). is_none x) (sym eo ∙ e)
 
           -- no source mapping
-          pub by-missing : m ≡ true → Tells why NoSource
-          by-missing e = record { reason = check-fires why (is_none named-source) NoSource _ at_source (missing_is true e); short = omega arith }
+          pub by-missing : o ≡ None → Tells why NoSource
+          by-missing e = record { reason = check-fires why (is_none named-source) NoSource _ at_source (missing_is None e); short = omega arith }
 
-          module _ (e : m ≡ false) (s : Mapping) (es : s ≡ source_mapping o) (v d : Bool) (ev : v ≡ writeable t.flags) (ed : d ≡ (v && not (eqb s.founder 1))) where
+          module _ (s : Mapping) (es : o ≡ Some s) (d : Bool) (ed : d ≡ (writeable t.flags && not (eqb s.founder 1))) where
             at_right : why ≡ first (when denied NotWriteable ∷ (places ++ free)) Accepted
-            at_right = check-passes why (is_none named-source) NoSource _ at_source (missing_is false e)
+            at_right = check-passes why (is_none named-source) NoSource _ at_source (missing_is (Some s) es)
 
             denied-is : (b : Bool) → d ≡ b → denied ≡ b
-            denied-is b q = sym (ed ∙ rw (ev, es, eo)) ∙ q
+            denied-is b q = ap (λ (x : Option Mapping). writeable t.flags && not (eqb (source_mapping x).founder 1)) (sym eo ∙ es) ∙ sym ed ∙ q
 
             -- not mapped writeable by its founder
             pub by_right : d ≡ true → Tells why NotWriteable
@@ -116,9 +117,9 @@ module _ (os : List Object) (ms : List Mapping) (t : Target) (source from : ℕ)
               by_place h = record { reason = stage_refused why places free p at_place ep.reason h; short = ep.short }
 
               -- no record is free, or nothing refuses
-              pub by-record : p ≡ Accepted → (f : Option ℕ) → f ≡ free_mapping ms → (b : Bool) → b ≡ is_some f → (r : Reason) → r ≡ first (when (not b) NoRecord ∷ []) Accepted → Tells why r
+              pub by-record : p ≡ Accepted → (f : Option ℕ) → f ≡ free_mapping ms → (b : Bool) → b ≡ is_none f → (r : Reason) → r ≡ first (when b NoRecord ∷ []) Accepted → Tells why r
               by-record zp f ef b eb r er =
-                  let is : r ≡ first free Accepted = checked-last (not b) (is_none (free_mapping ms)) NoRecord r Accepted er (ap (λ (x : Bool). not x) eb ∙ ap (λ (o : Option ℕ). is_none o) ef) in
+                  let is : r ≡ first free Accepted = er ∙ ap (λ (x : Bool). first (when x NoRecord ∷ []) Accepted) (eb ∙ ap (λ (o : Option ℕ). is_none o) ef) in
                   record {
                     reason = is ∙ sym (stage_passed why places free p at_place (places-refuse os ms t.space (fixed t.flags) t.length t.address) ep.reason zp);
                     short = short-first free r is (omega arith, tt);

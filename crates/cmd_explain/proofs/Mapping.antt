@@ -1,11 +1,11 @@
 -- MAP, one law for each return.
-use Prim.Native.Nat.{ℕ, ◌<◌}
-use mathlib.Core.Path.{◌≡◌, refl, sym, ap, ◌∙◌}
+use Prim.Native.Nat.{ℕ}
+use mathlib.Core.Path.{◌≡◌, sym, ap, ◌∙◌}
 use mathlib.Core.Bool.{Bool, true, false, not, ◌||◌}
-use mathlib.Core.List.{List, [], ◌∷◌, ◌++◌}
+use mathlib.Core.List.{List, ◌∷◌, ◌++◌}
 use native.Mathlib.Omega.{arith}
 use lib.Dec.{eqb}
-use Rattle.lists.specs.Checks.{Check, when, first, Refusals}
+use Rattle.lists.specs.Checks.{Check, when, first}
 use Rattle.ranges.specs.Pages.{pages_touched}
 use Rattle.rules_table.specs.Flags.{unknown, fixed}
 use Rattle.rules_table.specs.declared.Object.{Object}
@@ -20,10 +20,10 @@ use Rattle.landing.specs.declared.Target.{Target}
 use Rattle.rules_reasons.specs.declared.Reason.{Reason}
 use Rattle.rules_reasons.specs.declared.Reason.TheVariants.{Accepted, MemoryPasses, NoSpace}
 use Rattle.rules_reasons.specs.Reasons.{named, place_names, room_names, map_names, map_reason}
-use Rattle.reason_words.specs.Words.{Short, Tells, code_refuses}
+use Rattle.reason_words.specs.Words.{Short, Tells}
 use Rattle.reason_place.specs.Told.{place_reason}
 use Rattle.cmd_explain.specs.Numbered.{number_checks, map_reason_at}
-use Rattle.cmd_explain.proofs.Naming.{stage_refused, stage_passed, check-fires, check-passes, short-first, places-append, places-refuse}
+use Rattle.cmd_explain.proofs.Naming.{stops, goes, stage_refused, stage_passed, check-fires, check-passes, short-first, places-append, places-refuse}
 
 module _ (limit : ℕ) (os : List Object) (ms : List Mapping) (t : Target) (z memory : ℕ) where
   abbrev why : Reason
@@ -48,27 +48,28 @@ module _ (limit : ℕ) (os : List Object) (ms : List Mapping) (t : Target) (z me
   unfolding map_reason map_checks map_number_checks map_names named
   why-is = ap (λ (cs : List (Check Reason)). first (numbers ++ (when (not (space_at os t.space)) NoSpace ∷ cs)) Accepted) (places-append os ms t.space (fixed t.flags) t.length t.address (room_checks (free_mapping ms) limit (charge ms) (pages_touched memory t.length)) room_names)
 
-  refuse : Refusals numbers Accepted
-  refuse = (code_refuses _ (λ y. omega (arith, y)), (code_refuses _ (λ y. omega (arith, y)), (code_refuses _ (λ y. omega (arith, y)), (code_refuses _ (λ y. omega (arith, y)), (code_refuses _ (λ y. omega (arith, y)), tt)))))
-
   short-room : (r : Reason) → r ≡ first room Accepted → Short r
   unfolding room_checks named
   short-room r e = short-first room r e (omega arith, (omega arith, tt))
 
-  module _ (u : Bool) (eu : u ≡ strange) (w : Reason) (ew : w ≡ first (number_checks u t.flags t.length t.address memory MemoryPasses) Accepted) where
-    numbers-is : w ≡ first numbers Accepted
-    numbers-is = ew ∙ ap (λ (b : Bool). first (number_checks b t.flags t.length t.address memory MemoryPasses) Accepted) eu
+  -- the checks on the numbers, by what the code found of the flags
+  abbrev found : Bool → List (Check Reason)
+  found u = number_checks u t.flags t.length t.address memory MemoryPasses
+
+  module _ (u : Bool) (eu : u ≡ strange) where
+    same : (q : Reason) → first (found u) q ≡ first numbers q
+    same q = ap (λ (b : Bool). first (found b) q) eu
 
     -- the numbers refuse
-    pub by-numbers : (w ≡ Accepted → ⊥) → Tells why w
-    by-numbers h = record {
-      reason = stage_refused why numbers rest w why-is numbers-is h;
-      short = short-first numbers w numbers-is (omega arith, (omega arith, (omega arith, (omega arith, (omega arith, tt)))));
+    pub by-numbers : (r : Reason) → ((q : Reason) → r ≡ first (found u) q) → Tells why r
+    by-numbers r h = record {
+      reason = stops numbers rest r (λ q. h q ∙ same q) ∙ sym why-is;
+      short = short-first numbers r (h Accepted ∙ same Accepted) (omega arith, (omega arith, (omega arith, (omega arith, (omega arith, tt)))));
     }
 
-    module _ (zw : w ≡ Accepted) where
+    module _ (passed : (q : Reason) → q ≡ first (found u) q) where
       at-space : why ≡ first rest Accepted
-      at-space = stage_passed why numbers rest w why-is refuse numbers-is zw
+      at-space = why-is ∙ goes numbers rest (λ q. passed q ∙ same q)
 
       -- no such space
       pub by-space : space_at os t.space ≡ false → Tells why NoSpace

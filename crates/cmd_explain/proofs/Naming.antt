@@ -1,5 +1,5 @@
 -- Checks by name, one after another: a check or a stage that fires decides, one that passes leaves the reason to what comes after it.
-use Rattle.std.specs.Prelude.{Option, is_some}
+use Rattle.std.specs.Prelude.{Option, is_some, Result, Err}
 use Prim.Native.Nat.{ℕ}
 use mathlib.Core.Path.{◌≡◌, refl, sym, ap, subst, ◌∙◌}
 use mathlib.Core.Bool.{Bool, true, false, not}
@@ -9,51 +9,44 @@ use lib.Dec.{eqb}
 use borrow.Author.Tests.{eqb-true, eqb-false, ne_eqb}
 use Rattle.lists.specs.Tests.{contrary}
 use Rattle.lists.specs.Each.{Each}
-use Rattle.lists.specs.Checks.{Check, when, first, first-nil, first-fires, first_passes, first-append, first-stays, first_goes, first-each, Refusals}
-use Rattle.ranges.specs.Ranges.{passes}
+use Rattle.lists.specs.Checks.{Check, when, first, first-fires, first_passes, first-append, first-stays, first_goes, first-each, Refusals}
 use Rattle.rules_table.specs.declared.Object.{Object}
 use Rattle.rules_table.specs.declared.Mapping.{Mapping}
 use Rattle.rules_calls.specs.Landing.{fixed_checks, automatic_checks, place_checks}
-use Rattle.rules_calls.specs.Map.{no_right, wrong_length, fixed_passes, over_limit, room_checks}
 use Rattle.rules_calls.specs.Edits.{is_none}
 use Rattle.rules_reasons.specs.declared.Reason.{Reason}
-use Rattle.rules_reasons.specs.declared.Reason.TheVariants.{Accepted, Flags, NoRight, WrongLength, AddressPasses, NoRecord, OverLimit}
-use Rattle.rules_reasons.specs.Reasons.{named, place_names, room_names}
+use Rattle.rules_reasons.specs.declared.Reason.TheVariants.{Accepted}
+use Rattle.rules_reasons.specs.Reasons.{named, place_names}
 use Rattle.rules_reasons.specs.Explain.{reason_code}
-use Rattle.reason_words.specs.Words.{Short, Tells, code_accepted, code_refuses}
-use Rattle.cmd_explain.specs.Numbered.{number_checks}
+use Rattle.reason_words.specs.Words.{Short, code_accepted, code_refuses}
+use Rattle.cmd_explain.specs.Numbered.{told_or}
 
--- a check by itself, and the checks after it, are one list of checks. b is what the code found of it
-pub checked : (b c : Bool) (n r rest ok : Reason) (cs : List (Check Reason)) → r ≡ first (when b n ∷ []) rest → b ≡ c → rest ≡ first cs ok → r ≡ first (when c n ∷ cs) ok
-checked b c n r rest ok cs e f g =
-    e ∙ ap (λ (x : Reason). first (when b n ∷ []) x) g ∙ ap (λ (x : Bool). first (when x n ∷ []) (first cs ok)) f ∙ sym (first-append (when c n ∷ []) cs ok)
+-- a check that fired stops the list: it is the outcome whatever comes after it. b is what the code found of it
+pub stop : (b c : Bool) (n r : Reason) (cs : List (Check Reason)) → b ≡ c → ((rest : Reason) → r ≡ first (when b n ∷ []) rest) → (rest : Reason) → r ≡ first (when c n ∷ cs) rest
+stop b c n r cs e h rest = h (first cs rest) ∙ ap (λ (x : Bool). first (when x n ∷ []) (first cs rest)) e ∙ sym (first-append (when c n ∷ []) cs rest)
 
-pub checked-last : (b c : Bool) (n r ok : Reason) → r ≡ first (when b n ∷ []) ok → b ≡ c → r ≡ first (when c n ∷ []) ok
-checked-last b c n r ok e f = e ∙ ap (λ (x : Bool). first (when x n ∷ []) ok) f
+-- one that passed leaves the outcome to them
+pub pass : (b c : Bool) (n : Reason) (cs : List (Check Reason)) → b ≡ c → ((rest : Reason) → rest ≡ first (when b n ∷ []) rest) → (rest : Reason) → first cs rest ≡ first (when c n ∷ cs) rest
+pass b c n cs e h rest = h (first cs rest) ∙ ap (λ (x : Bool). first (when x n ∷ []) (first cs rest)) e ∙ sym (first-append (when c n ∷ []) cs rest)
 
-pub numbers-are : (unknown nr wr pa fi : Bool) (flags n x start : ℕ) (past r1 r2 r3 r4 r5 : Reason) → nr ≡ no_right flags → wr ≡ wrong_length n → pa ≡ passes start n → fi ≡ fixed_passes flags x n
-    → r1 ≡ first (when fi AddressPasses ∷ []) Accepted → r2 ≡ first (when pa past ∷ []) r1 → r3 ≡ first (when wr WrongLength ∷ []) r2 → r4 ≡ first (when nr NoRight ∷ []) r3 → r5 ≡ first (when unknown Flags ∷ []) r4
-    → r5 ≡ first (number_checks unknown flags n x start past) Accepted
-numbers-are unknown nr wr pa fi flags n x start past r1 r2 r3 r4 r5 enr ewr epa efi e1 e2 e3 e4 e5 =
-    checked unknown unknown Flags r5 r4 Accepted _ e5 refl
-    (checked nr (no_right flags) NoRight r4 r3 Accepted _ e4 enr
-    (checked wr (wrong_length n) WrongLength r3 r2 Accepted _ e3 ewr
-    (checked pa (passes start n) past r2 r1 Accepted _ e2 epa
-    (checked-last fi (fixed_passes flags x n) AddressPasses r1 Accepted e1 efi))))
+pub last : {A : Type 0} (b c : Bool) (n : Reason) (x : Result A Reason) → b ≡ c → ((rest : Reason) → told_or x rest ≡ first (when b n ∷ []) rest) → (rest : Reason) → told_or x rest ≡ first (when c n ∷ []) rest
+last b c n x e h rest = h rest ∙ ap (λ (y : Bool). first (when y n ∷ []) rest) e
 
-pub room-is : (free : Option ℕ) (limit charge pages : ℕ) (some over : Bool) (r1 r2 : Reason) → some ≡ is_some free → over ≡ over_limit limit charge pages
-    → r1 ≡ first (when over OverLimit ∷ []) Accepted → r2 ≡ first (when (not some) NoRecord ∷ []) r1 → r2 ≡ first (named (room_checks free limit charge pages) room_names) Accepted
-unfolding room_checks named
-room-is free limit charge pages some over r1 r2 es eo e1 e2 =
-    checked (not some) (is_none free) NoRecord r2 r1 Accepted _ e2 (ap (λ (x : Bool). not x) es)
-    (checked-last over (over_limit limit charge pages) OverLimit r1 Accepted e1 eo)
+-- a check that stopped, by its name
+pub after : {A : Type 0} {x : Result A Reason} {r : Reason} → x ≡ Err r → (rest : Reason) → told_or x rest ≡ r
+after e rest = ap (λ y. told_or y rest) e
 
--- a check, as the code makes it
-pub name-fires : (b : Bool) (n rest : Reason) → b ≡ true → n ≡ first (when b n ∷ []) rest
-name-fires b n rest e = sym (first-fires (when b n) [] rest e)
+-- the same of a list, with another behind it
+pub stops : (cs ds : List (Check Reason)) (r : Reason) → ((rest : Reason) → r ≡ first cs rest) → r ≡ first (cs ++ ds) Accepted
+stops cs ds r h = h (first ds Accepted) ∙ sym (first-append cs ds Accepted)
 
-pub name-passes : (b : Bool) (n rest : Reason) → b ≡ false → rest ≡ first (when b n ∷ []) rest
-name-passes b n rest e = sym (first_passes (when b n) [] rest e ∙ first-nil rest)
+pub goes : (cs ds : List (Check Reason)) → ((rest : Reason) → rest ≡ first cs rest) → first (cs ++ ds) Accepted ≡ first ds Accepted
+goes cs ds h = first-append cs ds Accepted ∙ sym (h (first ds Accepted))
+
+-- what std says of `is_none`, as an equation
+pub none-is : {A : Type 0} (o : Option A) (b : Bool) → is_some o ≡ not b → b ≡ is_none o
+none-is o true e = sym (ap (λ (x : Bool). not x) e)
+none-is o false e = sym (ap (λ (x : Bool). not x) e)
 
 -- an alignment of 0 is that of no space
 pub no-space : (a : ℕ) (b : Bool) → not (eqb a 0) ≡ b → a ≡ 0 → b ≡ false

@@ -1,5 +1,5 @@
 -- The reasons of MAP and COPY by the numbers of their fields, as the code holds them, and the checks on these numbers that the two share.
-use Rattle.std.specs.Prelude.{ℕ, Bool, List, [], ◌∷◌}
+use Rattle.std.specs.Prelude.{ℕ, Bool, List, [], ◌∷◌, Result, Ok, Err}
 use Rattle.lists.specs.Checks.{Check, when}
 use Rattle.ranges.specs.Ranges.{passes}
 use Rattle.rules_table.specs.declared.Object.{Object}
@@ -9,6 +9,11 @@ use Rattle.landing.specs.declared.Target.{Target}
 use Rattle.rules_reasons.specs.declared.Reason.{Reason}
 use Rattle.rules_reasons.specs.declared.Reason.TheVariants.{Flags, NoRight, WrongLength, AddressPasses}
 use Rattle.rules_reasons.specs.Reasons.{map_reason, copy_reason}
+
+-- the name of a check that fired, else what the checks after it tell
+abbrev pub told_or : {A : Type 0} → Result A Reason → Reason → Reason
+told_or (Ok a) rest = rest
+told_or (Err r) rest = r
 
 abbrev pub number_checks : Bool → ℕ → ℕ → ℕ → ℕ → Reason → List (Check Reason)
 number_checks unknown flags n x start past =

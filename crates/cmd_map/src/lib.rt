@@ -1,7 +1,7 @@
 // What MAP decides over a good table: the numbers of the command first, then the place, then the room that the check found. COPY shares the parts of a new mapping.
 #![tactic(auto)]
 
-ghost use Rattle.std.specs.Prelude.{true, List, ◌≡◌, ℕ, ◌+◌, ◌≤◌, ◌<◌, length};
+ghost use Rattle.std.specs.Prelude.{List, ◌≡◌, ℕ, ◌+◌, ◌≤◌, ◌<◌, length};
 ghost use Rattle.lists.specs.Tests.{only_if};
 ghost use Rattle.lists.specs.Checks.{first};
 ghost use Rattle.rules_table.specs.declared.Object.{Object};
@@ -10,15 +10,18 @@ ghost use Rattle.table.specs.Checked.{page_at};
 ghost use Rattle.rules_table.specs.Spaces.{alignment};
 ghost use Rattle.rules_table.specs.Words.{head_in, objects_in};
 ghost use Rattle.layout_mappings.specs.Words.{records_of};
-ghost use Rattle.index_search.specs.Indexed.{Indexed};
 ghost use Rattle.check_mappings.specs.Told.{Told};
+ghost use Rattle.checks.specs.Refused.{refused};
+ghost use Rattle.edits.specs.Settled.{decided};
 ghost use Rattle.landing.specs.Placing.{Placed};
 ghost use Rattle.rules_calls.specs.Edits.{number_in};
 ghost use Rattle.rules_calls.specs.Map.{rights_of, mapped, no_right, wrong_length, fixed_passes, room_checks, over_limit, found_of};
 ghost use Rattle.edits.specs.Numbers.{map_number_checks_at, map_edit_at};
 
 use check_mappings::Pass;
-use landing::{Placing, Target};
+use checks::{Errno, refuse_if};
+use index_search::Mappings;
+use landing::Target;
 use rules_calls::{Change, Edit};
 use rules_table::Mapping;
 
@@ -31,6 +34,7 @@ fn one_if(b: bool, n: u32) -> u32
 }
 
 // Bit 0 write, bit 1 read.
+#[tactic(auto, unfolding(rules_calls::specs::Map::rights_of))]
 pub fn rights_of(flags: u32) -> u32
     ensures { result ≡ rights_of flags }
 {
@@ -42,10 +46,7 @@ fn number_in(f: Option<usize>) -> u32
     requires { number_in f ≤ 128 }
     ensures { result ≡ number_in f }
 {
-    match f {
-        None => 0,
-        Some(n) => n as u32,
-    }
+    f.unwrap_or(0) as u32
 }
 
 // A mapping in the lowest free record, with its address as the reply.
@@ -53,84 +54,65 @@ pub fn put_new(free: Option<usize>, m: Mapping) -> Edit
     ensures { result ≡ mapped free m }
 {
     let Some(i) = free else {
-        return edits::refusal(12);
+        return edits::refusal(Errno::ENOMEM.number());
     };
-    let object = edits::free_object();
-    edits::acceptance(m.address, Change::Map(i, m), object)
+    edits::acceptance(m.address, Change::Map(i, m), edits::free_object())
 }
 
 // ---- checks that MAP and COPY share
 
+#[tactic(auto, unfolding(rules_calls::specs::Map::no_right))]
 pub fn has_no_right(flags: u32) -> bool
     ensures { result ≡ no_right flags }
 {
-    !checks::either(opening::is_writeable(flags), opening::is_readable(flags))
+    !(opening::is_writeable(flags) || opening::is_readable(flags))
 }
 
+#[tactic(auto, unfolding(rules_calls::specs::Map::wrong_length))]
 pub fn is_wrong_length(n: u64) -> bool
     ensures { result ≡ wrong_length n }
 {
-    checks::either(n == 0, 0x100_0000_0000 < n)
+    n == 0 || 0x100_0000_0000 < n
 }
 
+#[tactic(auto, unfolding(rules_calls::specs::Map::fixed_passes))]
 pub fn fixed_passes(flags: u32, x: u64, n: u64) -> bool
     ensures { result ≡ fixed_passes flags x n }
 {
-    checks::both(opening::is_fixed(flags), ranges::passes_max(x, n))
+    opening::is_fixed(flags) && ranges::passes_max(x, n)
 }
 
 // The place of a target in a space of alignment a. What the range asked touches is asked for a fixed address alone.
-pub fn place_in<'a>(
-    h: &'a [u64; 865],
-    ws: &'a [[u64; 5]],
-    ix: &'a [u64],
-    listed: usize,
-    a: u64,
-    t: Target,
-) -> Placing
-    requires { Indexed listed ix.now (records_of ws.now) × (0 < t.space) }
-    ensures { a ≡ alignment (objects_in h.now) t.space → Placed (objects_in h.now) (records_of ws.now) t result }
+pub fn place_in(h: &[u64; 865], ms: &Mappings, a: u64, t: Target) -> Result<u64, Errno>
+    requires { 0 < t.space }
+    ensures { a ≡ alignment (objects_in h.now) t.space → Placed (objects_in h.now) (records_of ms.now.records.now) t result }
 {
     if opening::is_fixed(t.flags) {
         let r = ranges::span_of(t.address, t.length);
         let reserved = reserved_ranges::is_touched(h, t.space, r);
-        let touched = index_search::is_taken(ws, ix, listed, t.space, r);
+        let touched = ms.is_taken(t.space, r);
         return landing::place_fixed(a, t, reserved, touched);
     }
-    let o = layout_objects::object_of(h, t.space);
-    let allow = o.allow;
-    landing::place_automatic(h, ws, ix, listed, a, allow, t)
+    let allow = layout_objects::object_of(h, t.space).allow;
+    landing::place_automatic(h, ms, a, allow, t)
 }
 
 // ---- MAP
 
-fn map_number_errno(known: bool, t: Target, zero: u32, memory: u64) -> u8
-    ensures { (os : List Object) → known ≡ space_at os t.space → result ≡ first (map_number_checks_at os t.flags t.space zero memory t.length t.address) 0 }
+// The numbers of the command, and the space.
+#[tactic(auto, unfolding(lists::specs::Checks::first, rules_calls::specs::Map::map_number_checks))]
+fn check_numbers(known: bool, t: Target, zero: u32, memory: u64) -> Result<(), Errno>
+    ensures { (os : List Object) → known ≡ space_at os t.space → refused result ≡ first (map_number_checks_at os t.flags t.space zero memory t.length t.address) 0 }
 {
-    let flags = t.flags;
-    let n = t.length;
-    let unknown = checks::either(opening::has_unknown(flags), zero != 0);
-    let none = has_no_right(flags);
-    let wrong = is_wrong_length(n);
-    let past = ranges::passes_max(memory, n);
-    let fixed = fixed_passes(flags, t.address, n);
-    checks::refuse_if(
-        unknown,
-        95,
-        checks::refuse_if(
-            none,
-            22,
-            checks::refuse_if(
-                wrong,
-                22,
-                checks::refuse_if(
-                    past,
-                    75,
-                    checks::refuse_if(fixed, 75, checks::refuse_if(!known, 2, 0)),
-                ),
-            ),
-        ),
-    )
+    refuse_if(
+        opening::has_unknown(t.flags) || zero != 0,
+        Errno::EOPNOTSUPP,
+    )?;
+    refuse_if(has_no_right(t.flags), Errno::EINVAL)?;
+    refuse_if(is_wrong_length(t.length), Errno::EINVAL)?;
+    refuse_if(ranges::passes_max(memory, t.length), Errno::EOVERFLOW)?;
+    refuse_if(fixed_passes(t.flags, t.address, t.length), Errno::EOVERFLOW)?;
+    refuse_if(!known, Errno::ENOENT)
 }
 
 // Whether so many pages more would pass the limit. No sum is made.
@@ -147,15 +129,16 @@ pub fn over_limit(limit: u64, charge: u64, pages: u64) -> bool
 }
 
 // A free record, and the charge within the limit.
-fn room_errno(free: Option<usize>, limit: u64, charge: u64, pages: u64) -> u8
-    ensures { result ≡ first (room_checks free limit charge pages) 0 }
+#[tactic(auto, unfolding(lists::specs::Checks::first, rules_calls::specs::Map::room_checks))]
+fn check_room(free: Option<usize>, limit: u64, charge: u64, pages: u64) -> Result<(), Errno>
+    ensures { refused result ≡ first (room_checks free limit charge pages) 0 }
 {
-    let some = free.is_some();
-    let over = over_limit(limit, charge, pages);
-    checks::refuse_if(!some, 12, checks::refuse_if(over, 12, 0))
+    refuse_if(free.is_none(), Errno::ENOMEM)?;
+    refuse_if(over_limit(limit, charge, pages), Errno::ENOMEM)
 }
 
 // The mapping that a MAP founds, at an address.
+#[tactic(auto, unfolding(rules_calls::specs::Map::found_of))]
 fn founded(backing: u32, t: Target, memory: u64, address: u64) -> Mapping
     ensures { result ≡ found_of backing t.flags t.space memory t.length address }
 {
@@ -170,41 +153,42 @@ fn founded(backing: u32, t: Target, memory: u64, address: u64) -> Mapping
     }
 }
 
-// What the check found: p of the mapping records, with the marks of their backings, the numbers that the index has, and a, the alignment of the target's space, 0 where it is no space.
-pub fn decide_map<'a>(
-    h: &'a [u64; 865],
-    ws: &'a [[u64; 5]],
-    ix: &'a [u64],
-    listed: usize,
+// The edit, or the first check that fires: the numbers of the command, the place, the room.
+fn mapped_in(
+    h: &[u64; 865],
+    ms: &Mappings,
     p: Pass,
-    marks: &'a [u8],
+    marks: &[u8],
+    a: u64,
+    t: Target,
+    zero: u32,
+    memory: u64,
+) -> Result<Edit, Errno>
+    requires { (length marks.now ≡ 129) × (0 < a → 0 < t.space) × ((pages : List ℕ) × Told pages (records_of ms.now.records.now) p marks.now) }
+    ensures { a ≡ page_at (objects_in h.now) t.space → decided result ≡ map_edit_at (head_in h.now).limit (objects_in h.now) (records_of ms.now.records.now) t.flags t.space zero memory t.length t.address }
+{
+    check_numbers(a != 0, t, zero, memory)?;
+    let address = place_in(h, ms, a, t)?;
+    let v = scan::survey_of(ms.records, p, marks);
+    let pages = ranges::pages_touched(memory, t.length);
+    check_room(v.free, layout_objects::limit_of(h), v.charge, pages)?;
+    let mapping = founded(number_in(v.backing), t, memory, address);
+    Ok(put_new(v.free, mapping))
+}
+
+// What the check found: p of the mapping records, with the marks of their backings, and a, the alignment of the target's space, 0 where it is no space.
+pub fn decide_map(
+    h: &[u64; 865],
+    ms: &Mappings,
+    p: Pass,
+    marks: &[u8],
     a: u64,
     t: Target,
     zero: u32,
     memory: u64,
 ) -> Edit
-    requires { Indexed listed ix.now (records_of ws.now) × (length marks.now ≡ 129) × (p.good ≡ true) × (0 < a → 0 < t.space) × ((pages : List ℕ) × Told pages (records_of ws.now) p marks.now) }
-    ensures { a ≡ page_at (objects_in h.now) t.space → result ≡ map_edit_at (head_in h.now).limit (objects_in h.now) (records_of ws.now) t.flags t.space zero memory t.length t.address }
+    requires { (length marks.now ≡ 129) × (0 < a → 0 < t.space) × ((pages : List ℕ) × Told pages (records_of ms.now.records.now) p marks.now) }
+    ensures { a ≡ page_at (objects_in h.now) t.space → result ≡ map_edit_at (head_in h.now).limit (objects_in h.now) (records_of ms.now.records.now) t.flags t.space zero memory t.length t.address }
 {
-    let wrong = map_number_errno(a != 0, t, zero, memory);
-    if wrong != 0 {
-        return edits::refusal(wrong);
-    }
-    let place = place_in(h, ws, ix, listed, a, t);
-    if place.errno != 0 {
-        return edits::refusal(place.errno);
-    }
-    let v = scan::survey_of(ws, p, marks);
-    let free = v.free;
-    let full = room_errno(
-        free,
-        layout_objects::limit_of(h),
-        v.charge,
-        ranges::pages_touched(memory, t.length),
-    );
-    if full != 0 {
-        return edits::refusal(full);
-    }
-    let number = v.backing;
-    put_new(free, founded(number_in(number), t, memory, place.address))
+    edits::decided(mapped_in(h, ms, p, marks, a, t, zero, memory))
 }

@@ -1,23 +1,27 @@
--- The list of an area, and what DESTROY and ALLOW_IOVAS check.
-use Prim.Native.Nat.{ℕ, ◌+◌, ◌-◌, ◌*◌, ◌≤◌, ◌<◌}
+-- The list of an area, what ALLOW_IOVAS checks, and the last check of IOAS_ALLOC.
+use Prim.Native.Nat.{ℕ, zero, suc, ◌+◌, ◌-◌, ◌*◌, ◌≤◌, ◌<◌}
 use mathlib.Core.Path.{◌≡◌, refl, sym, ap, ◌∙◌}
-use mathlib.Core.Bool.{Bool, false, ◌||◌}
+use mathlib.Core.Bool.{Bool, false, not}
+use lib.Dec.{eqb}
 use mathlib.Core.List.{List, [], ◌∷◌}
 use native.Mathlib.Omega.{arith}
-use lib.ListN.{length}
+use lib.ListN.{length, get_or}
+use lib.Seq.{ext_get_or}
+use native.Mathlib.Nat.{le_of_suc-le-suc, not-suc-le-zero}
+use Rattle.std.specs.Array.{IsFromFnResult, IsFromFnResultFrom}
+use Rattle.std.specs.Fn.{Mut, Called}
 use borrow.Author.Tests.{lt-ltb, le-ltb, ltb-false}
-use Rattle.lists.specs.Search.{any}
 use Rattle.lists.specs.Checks.{when, first, first-append, first-stays, first_goes, Refusals, passed}
-use Rattle.rangelists.specs.declared.Allowed.{Allowed}
+use Rattle.rangelists.specs.Listed.{Allowed}
 use Rattle.wire.specs.Fields.{field}
 use Rattle.rules_table.specs.declared.Object.{Object}
-use Rattle.rules_table.specs.Records.{free_object, is_free, is_space, is_attached, object_at, space_at, attached_to}
-use Rattle.rules_calls.specs.declared.Change.{Change}
+use Rattle.rules_table.specs.Records.{new_space, is_space, object_at, space_at}
+use Rattle.rules_table.specs.Charge.{free_record}
 use Rattle.rules_calls.specs.declared.Change.TheVariants.{Put}
 use Rattle.rules_calls.specs.declared.Edit.{Edit}
-use Rattle.rules_calls.specs.Edits.{accept}
-use Rattle.edits.specs.Settled.{checked, checked-last}
-use Rattle.rules_calls.specs.Objects.{in_use, destroy_checks, removal}
+use Rattle.rules_calls.specs.Edits.{accept, settle, added}
+use Rattle.edits.specs.Settled.{settle-record}
+use Rattle.rules_calls.specs.Objects.{alloc_checks, alloc_edit}
 use Rattle.rules_calls.specs.Allow.{number_at, column, area_list, with_allow, list_checks, allow_number_checks, allow_checks}
 use Rattle.edits.specs.Numbers.{allow_number_checks_at, allow_checks_at}
 
@@ -29,37 +33,6 @@ module _ (off n k : ℕ) (area : List ℕ) where
   pub number-some : {x : ℕ} → k < n → x ≡ field 8 area (16 * k + off) → x ≡ number_at off n k area
   unfolding number_at
   number-some h e = rw (lt-ltb k n h) e
-
--- eight numbers are a column
-pub column-8 : (off n : ℕ) (area : List ℕ)
-    → number_at off n 0 area ∷ number_at off n 1 area ∷ number_at off n 2 area ∷ number_at off n 3 area ∷ number_at off n 4 area ∷ number_at off n 5 area ∷ number_at off n 6 area ∷ number_at off n 7 area ∷ []
-    ≡ column off n 0 8 area
-unfolding column
-column-8 off n area = refl
-
-pub eight : (a b c d e f g h : ℕ) (p q r s t u v w : ℕ) → a ≡ p → b ≡ q → c ≡ r → d ≡ s → e ≡ t → f ≡ u → g ≡ v → h ≡ w
-    → ◌≡◌ {A = List ℕ} (a ∷ b ∷ c ∷ d ∷ e ∷ f ∷ g ∷ h ∷ []) (p ∷ q ∷ r ∷ s ∷ t ∷ u ∷ v ∷ w ∷ [])
-eight a b c d e f g h p q r s t u v w ea eb ec ed ee ef eg eh = rw (ea, eb, ec, ed, ee, ef, eg, eh)
-
--- an allow list by its two columns
-pub list_is : (n : ℕ) (a b p q : List ℕ) → a ≡ p → b ≡ q → ◌≡◌ {A = Allowed} record { count = n; starts = a; lasts = b } record { count = n; starts = p; lasts = q }
-list_is n a b p q e f = rw (e, f)
-
-pub or_is : (r a b p q : Bool) → r ≡ (a || b) → a ≡ p → b ≡ q → r ≡ (p || q)
-or_is r a b p q e f g = e ∙ rw (f, g)
-
--- ---- DESTROY
-
-module _ (os : List Object) (id : ℕ) (o : Object) (e : o ≡ object_at os id) where
-  pub destroy_errno : (a h u f : Bool) (r r2 : ℕ) → a ≡ is_attached o.kind → h ≡ any (λ x. attached_to id x.kind) os → u ≡ (a || h) → f ≡ is_free o.kind
-      → r ≡ first (when u 16 ∷ []) 0 → r2 ≡ first (when f 2 ∷ []) r → r2 ≡ first (destroy_checks os id) 0
-  unfolding destroy_checks in_use
-  destroy_errno a h u f r r2 ea eh eu ef er er2 =
-      checked f (is_free (object_at os id).kind) 2 r2 r 0 _ er2 (ef ∙ ap (λ (x : Object). is_free x.kind) e)
-      (checked-last u (is_attached (object_at os id).kind || any (λ x. attached_to id x.kind) os) 16 r 0 er (or_is u a h _ _ eu (ea ∙ ap (λ (x : Object). is_attached x.kind) e) eh))
-
-  pub destroy_edit-is : (r : Edit) (c : Change) (i : ℕ) (n : Object) → i ≡ id - 1 → c ≡ removal o.kind i → n ≡ free_object → r ≡ accept 0 c n → r ≡ accept 0 (removal (object_at os id).kind (id - 1)) free_object
-  destroy_edit-is r c i n ei ec en er = er ∙ rw (ec, ei, en) (ap (λ (x : Object). accept 0 (removal x.kind (id - 1)) free_object) e)
 
 -- ---- ALLOW_IOVAS: the checks on the numbers, then those on the list
 
@@ -94,3 +67,36 @@ module _ (os : List Object) (s count z : ℕ) (area : List ℕ) where
 pub allow-edit : (os : List Object) (s count : ℕ) (area : List ℕ) (r : Edit) (o n : Object) (l : Allowed) (i : ℕ) → o ≡ object_at os s → i ≡ s - 1 → l ≡ area_list count area → n ≡ with_allow o l → r ≡ accept 0 (Put i) n
     → r ≡ accept 0 (Put (s - 1)) (with_allow (object_at os s) (area_list count area))
 allow-edit os s count area r o n l i eo ei el en er = er ∙ rw (en, eo, ei, el)
+
+-- ---- IOAS_ALLOC: "no record: 12" at the end of its list is what a new object refuses by itself
+
+pub alloc_record : (os : List Object) (flags : ℕ) → alloc_edit os flags ≡ settle (first (when (not (eqb flags 0)) 95 ∷ []) 0) (added (free_record os) new_space)
+unfolding alloc_edit alloc_checks
+alloc_record os flags = sym (settle-record (when (not (eqb flags 0)) 95 ∷ []) (free_record os) new_space)
+
+-- ---- a column that is filled from its first range on
+
+length-column : (off n k room : ℕ) (area : List ℕ) → length (column off n k room area) ≡ room
+unfolding column
+length-column off n k zero area = refl
+length-column off n k (suc room) area = ap suc (length-column off n (k + 1) room area)
+
+column-at : (off n k room i : ℕ) (area : List ℕ) → i < room → get_or (column off n k room area) i 0 ≡ number_at off n (k + i) area
+unfolding column
+column-at off n k zero i area h = absurd (not-suc-le-zero h)
+column-at off n k (suc room) zero area h = ap (λ (x : ℕ). number_at off n x area) (omega arith)
+column-at off n k (suc room) (suc i) area h = column-at off n (k + 1) room i area (le_of_suc-le-suc h) ∙ ap (λ (x : ℕ). number_at off n x area) (omega arith)
+
+-- the numbers that calls from f on give, where each call gives its number and keeps what it captured
+module _ {F : Type 0} {g : Mut F (ℕ × Unit {0}) ℕ} (P : F → Type 0) (off n : ℕ) (area : List ℕ) (step : (f q : F) (i y : ℕ) → P f → Called g f (i, tt) y q → P q × (y ≡ number_at off n i area)) where
+  called : (f : F) (ys : List ℕ) (k room : ℕ) → P f → IsFromFnResultFrom g f ys k room → (i : ℕ) → i < room → get_or ys (k + i) 0 ≡ number_at off n (k + i) area
+  called f ys k zero p c i h = absurd (not-suc-le-zero h)
+  called f ys k (suc room) p c zero h =
+      ap (λ (x : ℕ). get_or ys x 0) (omega arith) ∙ c.2.1 0 ∙ (step f c.0 k c.1 p c.3).1 ∙ ap (λ (x : ℕ). number_at off n x area) (omega arith)
+  called f ys k (suc room) p c (suc i) h =
+      ap (λ (x : ℕ). get_or ys x 0) (omega arith) ∙ called c.0 ys (k + 1) room (step f c.0 k c.1 p c.3).0 c.4 i (le_of_suc-le-suc h) ∙ ap (λ (x : ℕ). number_at off n x area) (omega arith)
+
+  pub column-filled : (f : F) (ys : List ℕ) (room : ℕ) → P f → IsFromFnResult g f ys room → ys ≡ column off n 0 room area
+  column-filled f ys room p c =
+      ext_get_or 0 ys (column off n 0 room area) (c.long ∙ sym (length-column off n 0 room area))
+      (λ i l. ap (λ (x : ℕ). get_or ys x 0) (omega arith) ∙ called f ys 0 room p c.each i (omega (arith, c.long)) ∙ sym (column-at off n 0 room i area (omega (arith, c.long))))

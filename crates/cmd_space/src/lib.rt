@@ -10,51 +10,60 @@ ghost use Rattle.rules_table.specs.Words.{objects_in};
 ghost use Rattle.rules_calls.specs.Objects.{alloc_edit, removal, destroy_edit};
 ghost use Rattle.rules_calls.specs.Allow.{number_at, column, area_list, with_allow, list_checks};
 ghost use Rattle.edits.specs.Numbers.{allow_number_checks_at, allow_edit_at, ranges_checks_at};
+ghost use Rattle.checks.specs.Refused.{refused};
+ghost use Rattle.edits.specs.Settled.{decided};
 
+use checks::{Errno, refuse_if};
 use rangelists::Allowed;
 use rules_calls::{Change, Edit};
 use rules_table::{Kind, Object};
+
+// A new space, or why there is none.
+#[tactic(auto, using(crate::proofs::Listing::alloc_record))]
+fn alloc(free: Option<usize>, flags: u32) -> Result<Edit, Errno>
+    ensures { (os : List Object) → length os ≡ 32 → free ≡ free_record os → decided result ≡ alloc_edit os flags }
+{
+    refuse_if(flags != 0, Errno::EOPNOTSUPP)?;
+    Ok(edits::add_new(free, edits::new_space()))
+}
 
 // free is the lowest free record.
 pub fn decide_alloc(free: Option<usize>, flags: u32) -> Edit
     ensures { (os : List Object) → length os ≡ 32 → free ≡ free_record os → result ≡ alloc_edit os flags }
 {
-    let errno = checks::refuse_if(flags != 0, 95, 0);
-    if errno != 0 {
-        return edits::refusal(errno);
-    }
-    let object = edits::new_space();
-    edits::add_new(free, object)
+    edits::decided(alloc(free, flags))
 }
 
 fn removal_of(k: Kind, i: usize) -> Change
     ensures { result ≡ removal k i }
 {
     match k {
-        Kind::Free => Change::Put(i),
         Kind::Space => Change::Drop(i),
-        Kind::Device(_) => Change::Put(i),
+        Kind::Free | Kind::Device(_) => Change::Put(i),
     }
+}
+
+// The release of an object, or why it stays.
+#[tactic(auto, unfolding(lists::specs::Checks::first, rules_calls::specs::Objects::destroy_edit, rules_calls::specs::Objects::destroy_checks, rules_calls::specs::Objects::in_use))]
+fn destroy(o: Object, held: bool, id: u32) -> Result<Edit, Errno>
+    ensures { (os : List Object) → o ≡ object_at os id → held ≡ any (λ x. attached_to id x.kind) os → decided result ≡ destroy_edit os id }
+{
+    refuse_if(table::is_free(o.kind), Errno::ENOENT)?;
+    refuse_if(table::is_attached(o.kind) || held, Errno::EBUSY)?;
+    let change = removal_of(o.kind, edits::slot_of(id));
+    Ok(edits::acceptance(0, change, edits::free_object()))
 }
 
 // o is the object of the id; held says whether a device is attached to it.
 pub fn decide_destroy(o: Object, held: bool, id: u32) -> Edit
     ensures { (os : List Object) → o ≡ object_at os id → held ≡ any (λ x. attached_to id x.kind) os → result ≡ destroy_edit os id }
 {
-    let k = o.kind;
-    let used = checks::either(table::is_attached(k), held);
-    let errno = checks::refuse_if(table::is_free(k), 2, checks::refuse_if(used, 16, 0));
-    if errno != 0 {
-        return edits::refusal(errno);
-    }
-    let change = removal_of(k, edits::slot_of(id));
-    let object = edits::free_object();
-    edits::acceptance(0, change, object)
+    edits::decided(destroy(o, held, id))
 }
 
 // A number of range k of the area, 0 from the count on.
-pub fn area_number(area: &[u8], off: usize, count: u32, k: usize) -> u64
-    requires { (off ≤ 8) × (k < 8) × (16 * count ≤ length area.now) }
+fn area_number(area: &[u8], off: usize, count: u32, k: usize) -> u64
+    requires { (off ≤ 8) × (16 * count ≤ length area.now) }
     ensures { result ≡ number_at off count k area.now }
 {
     if count as usize <= k {
@@ -63,81 +72,72 @@ pub fn area_number(area: &[u8], off: usize, count: u32, k: usize) -> u64
     wire::read64(area, 16 * k + off)
 }
 
-// One number of each of 8 ranges.
-fn column_of(area: &[u8], off: usize, count: u32) -> [u64; 8]
+// One number of each of N ranges.
+pub fn column_of<const N: usize>(area: &[u8], off: usize, count: u32) -> [u64; N]
     requires { (off ≤ 8) × (16 * count ≤ length area.now) }
-    ensures { result ≡ column off count 0 8 area.now }
+    ensures { result ≡ column off count 0 N area.now }
 {
-    [
-        area_number(area, off, count, 0),
-        area_number(area, off, count, 1),
-        area_number(area, off, count, 2),
-        area_number(area, off, count, 3),
-        area_number(area, off, count, 4),
-        area_number(area, off, count, 5),
-        area_number(area, off, count, 6),
-        area_number(area, off, count, 7),
-    ]
+    std::array::from_fn(|k| area_number(area, off, count, k))
 }
 
 // The first count ranges of the area, in the order given.
+#[tactic(auto, unfolding(rules_calls::specs::Allow::area_list))]
 fn area_list(area: &[u8], count: u32) -> Allowed
     requires { 16 * count ≤ length area.now }
     ensures { result ≡ area_list count area.now }
 {
-    let starts = column_of(area, 0, count);
-    let lasts = column_of(area, 8, count);
     Allowed {
         count,
-        starts,
-        lasts,
+        starts: column_of(area, 0, count),
+        lasts: column_of(area, 8, count),
     }
 }
 
+#[tactic(auto, unfolding(rules_calls::specs::Allow::with_allow))]
 fn with_allow(o: Object, l: Allowed) -> Object
     ensures { result ≡ with_allow o l }
 {
-    let kind = o.kind;
-    let reserved = o.reserved;
-    Object {
-        kind,
-        bitmap: o.bitmap,
-        reserved,
-        allow: l,
-    }
+    Object { allow: l, ..o }
 }
 
 // known says whether the id is that of a space.
-fn number_errno(known: bool, count: u32, zero: u32, room: usize) -> u8
-    ensures { (os : List Object) (space : ℕ) → known ≡ space_at os space → result ≡ first (allow_number_checks_at os space count zero room) 0 }
+#[tactic(auto, unfolding(lists::specs::Checks::first, rules_calls::specs::Allow::allow_number_checks))]
+fn number_checks(known: bool, count: u32, zero: u32, room: usize) -> Result<(), Errno>
+    ensures { (os : List Object) (space : ℕ) → known ≡ space_at os space → refused result ≡ first (allow_number_checks_at os space count zero room) 0 }
 {
-    checks::refuse_if(
-        zero != 0,
-        95,
-        checks::refuse_if(
-            !known,
-            2,
-            checks::refuse_if(
-                8 < count,
-                12,
-                checks::refuse_if(room < 16 * (count as usize), 14, 0),
-            ),
-        ),
-    )
+    refuse_if(zero != 0, Errno::EOPNOTSUPP)?;
+    refuse_if(!known, Errno::ENOENT)?;
+    refuse_if(8 < count, Errno::ENOMEM)?;
+    refuse_if(room < 16 * (count as usize), Errno::EFAULT)
 }
 
-fn list_errno(h: &[u64; 865], space: u32, l: Allowed) -> u8
-    ensures { result ≡ first (list_checks (objects_in h.now) space l) 0 }
+#[tactic(auto, unfolding(lists::specs::Checks::first, rules_calls::specs::Allow::list_checks))]
+fn list_checks(h: &[u64; 865], space: u32, l: Allowed) -> Result<(), Errno>
+    ensures { refused result ≡ first (list_checks (objects_in h.now) space l) 0 }
 {
-    let wrong = checks::either(
-        !rangelists::allowed_valid(l),
-        rangelists::allowed_overlap(l),
-    );
+    refuse_if(!l.is_valid() || l.has_overlap(), Errno::EINVAL)?;
     let touches = reserved_ranges::list_touched(h, space, l);
-    checks::refuse_if(wrong, 22, checks::refuse_if(touches, 98, 0))
+    refuse_if(touches, Errno::EADDRINUSE)
 }
 
-// The numbers of the command first, then the list in its area.
+// The new allow list, or why it is not taken: the numbers of the command first, then the list in its area.
+fn allow<'a>(
+    h: &'a [u64; 865],
+    space: u32,
+    count: u32,
+    zero: u32,
+    area: &'a [u8],
+) -> Result<Edit, Errno>
+    ensures { decided result ≡ allow_edit_at (objects_in h.now) space count zero area.now }
+{
+    let o = layout_objects::object_of(h, space);
+    number_checks(table::is_space(o.kind), count, zero, area.len())?;
+    let l = area_list(area, count);
+    list_checks(h, space, l)?;
+    let change = Change::Put(edits::slot_of(space));
+    Ok(edits::acceptance(0, change, with_allow(o, l)))
+}
+
 pub fn decide_allow<'a>(
     h: &'a [u64; 865],
     space: u32,
@@ -147,31 +147,15 @@ pub fn decide_allow<'a>(
 ) -> Edit
     ensures { result ≡ allow_edit_at (objects_in h.now) space count zero area.now }
 {
-    let o = layout_objects::object_of(h, space);
-    let k = o.kind;
-    let first = number_errno(table::is_space(k), count, zero, area.len());
-    if first != 0 {
-        return edits::refusal(first);
-    }
-    let l = area_list(area, count);
-    let errno = list_errno(h, space, l);
-    if errno != 0 {
-        return edits::refusal(errno);
-    }
-    edits::acceptance(0, Change::Put(edits::slot_of(space)), with_allow(o, l))
+    edits::decided(allow(h, space, count, zero, area))
 }
 
-// The checks of IOVA_RANGES; 0 where it replies.
-pub fn ranges_errno(known: bool, count: u32, zero: u32, room: usize) -> u8
-    ensures { (os : List Object) (space : ℕ) → known ≡ space_at os space → result ≡ first (ranges_checks_at os space count zero room) 0 }
+// The checks of IOVA_RANGES.
+#[tactic(auto, unfolding(lists::specs::Checks::first, rules_calls::specs::Ranges::ranges_checks))]
+pub fn ranges_checks(known: bool, count: u32, zero: u32, room: usize) -> Result<(), Errno>
+    ensures { (os : List Object) (space : ℕ) → known ≡ space_at os space → refused result ≡ first (ranges_checks_at os space count zero room) 0 }
 {
-    checks::refuse_if(
-        zero != 0,
-        95,
-        checks::refuse_if(
-            !known,
-            2,
-            checks::refuse_if(room < 16 * (count as usize), 14, 0),
-        ),
-    )
+    refuse_if(zero != 0, Errno::EOPNOTSUPP)?;
+    refuse_if(!known, Errno::ENOENT)?;
+    refuse_if(room < 16 * (count as usize), Errno::EFAULT)
 }

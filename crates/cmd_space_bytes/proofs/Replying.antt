@@ -1,6 +1,9 @@
 -- IOVA_RANGES: the reply, the checks before it, and the gate before them.
+use Rattle.std.specs.Prelude.{Result, Err}
 use Prim.Native.Nat.{ℕ, ◌*◌, ◌≤◌}
-use mathlib.Core.Path.{◌≡◌, refl, sym, ◌∙◌}
+use mathlib.Core.Path.{◌≡◌, refl, sym, ap, ◌∙◌}
+use Rattle.checks.specs.declared.Errno.{Errno}
+use Rattle.checks.specs.Refused.{refused}
 use mathlib.Core.Bool.{Bool, true, false, cond}
 use mathlib.Core.List.{List, [], ◌∷◌}
 use native.Mathlib.Omega.{arith}
@@ -15,12 +18,14 @@ use Rattle.freeranges.specs.Written.{put_ranges}
 use Rattle.rules_table.specs.declared.Object.{Object}
 use Rattle.rules_table.specs.Records.{new_space, object_at, space_at}
 use Rattle.rules_table.specs.Spaces.{alignment, reserved_of}
-use Rattle.rules_calls.specs.declared.Edit.{Edit}
-use Rattle.rules_calls.specs.Edits.{refuse}
 use Rattle.reserved_ranges.specs.Gathered.{reserved_of-most}
 use Rattle.rules_calls.specs.Ranges.{free_of, replies_to, ranges_bytes, ranges_area, ranges_checks, ranges_errno}
 use Rattle.cmd_space_bytes.specs.Replied.{RangesReply, RangesDone}
 use Rattle.edits.specs.Numbers.{ranges_checks_at}
+
+-- a function that ends early by ? has the number of the check that it asked
+pub refused-same : {A B : Type 0} (r : Result A Errno) (d : Result B Errno) (e : Errno) → r ≡ Err e → d ≡ Err e → refused d ≡ refused r
+refused-same r d e p q = ap refused q ∙ sym (ap refused p)
 
 -- ---- the reply
 
@@ -104,8 +109,3 @@ module _ (os : List Object) (cmd area : List ℕ) where
         bytes = r.bytes ∙ rw (es, writes);
         ranges = r.ranges ∙ rw (es, ec, writes);
       }
-
--- ---- the edit
-
-pub ranges-edit : (os : List Object) (n : ℕ) (e : Edit) (cmd cmd' area area' : List ℕ) → e ≡ refuse n → RangesDone os n cmd cmd' area area' → (e ≡ refuse e.errno) × RangesDone os e.errno cmd cmd' area area'
-ranges-edit os n e cmd cmd' area area' k d = rw k (refl, d)

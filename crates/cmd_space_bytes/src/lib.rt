@@ -12,7 +12,10 @@ ghost use Rattle.rules_calls.specs.Answers.{replied};
 ghost use Rattle.rules_calls.specs.Objects.{alloc_edit};
 ghost use Rattle.cmd_space_bytes.specs.Replied.{RangesReply, RangesDone};
 ghost use Rattle.edits.specs.Numbers.{allow_edit_at};
+ghost use Rattle.checks.specs.Refused.{refused};
+ghost use Rattle.edits.specs.Settled.{decided};
 
+use checks::{Errno, refuse_if};
 use rules_calls::Edit;
 use rules_table::Object;
 
@@ -68,21 +71,20 @@ fn write_ranges(
     full
 }
 
-// The errno of IOVA_RANGES, and the reply where there is one. a is the alignment that the check found for the command's space, 0 where it is no space.
-fn answer_ranges(h: &[u64; 865], a: u64, cmd: &mut [u8], area: &mut [u8]) -> u8
+// The reply of IOVA_RANGES, or why there is none; 90 comes after it. a is the alignment that the check found for the command's space, 0 where it is no space.
+fn answer_ranges(h: &[u64; 865], a: u64, cmd: &mut [u8], area: &mut [u8]) -> Result<Edit, Errno>
     requires { 32 ≤ length cmd.old }
     ensures { a ≡ page_at (objects_in h.now) (field 4 cmd.old 4)
-        → RangesDone (objects_in h.now) result cmd.old cmd.new area.old area.new }
+        → (decided result ≡ refuse (refused result))
+        × RangesDone (objects_in h.now) (refused result) cmd.old cmd.new area.old area.new }
 {
     let space = wire::read32(cmd, 4);
     let count = wire::read32(cmd, 8);
     let zero = wire::read32(cmd, 12);
-    let refused = cmd_space::ranges_errno(a != 0, count, zero, area.len());
-    if refused != 0 {
-        return refused;
-    }
+    cmd_space::ranges_checks(a != 0, count, zero, area.len())?;
     let full = write_ranges(h, a, space, count, cmd, area);
-    checks::refuse_if((count as usize) < full, 90, 0)
+    refuse_if((count as usize) < full, Errno::EMSGSIZE)?;
+    Ok(edits::tell(0))
 }
 
 // IOVA_RANGES: what no attached device reserves, as the fewest ascending ranges, with the alignment. It changes no table: its edit carries the errno alone.
@@ -92,5 +94,5 @@ pub fn ranges(h: &[u64; 865], a: u64, cmd: &mut [u8], area: &mut [u8]) -> Edit
         → (result ≡ refuse result.errno)
         × RangesDone (objects_in h.now) result.errno cmd.old cmd.new area.old area.new }
 {
-    edits::refusal(answer_ranges(h, a, cmd, area))
+    edits::decided(answer_ranges(h, a, cmd, area))
 }

@@ -1,6 +1,6 @@
 -- The rules of five commands by the numbers of their fields, as the laws and the code hold them: each is the rule on the record of these numbers. And what a search found, as
 -- the code's enum has it.
-use Rattle.std.specs.Prelude.{ℕ, ◌≤◌, ◌≡◌, refl, not, List, Option, None, Some, is_some}
+use Rattle.std.specs.Prelude.{ℕ, ◌≤◌, List}
 use Rattle.std.proofs.Common.{arith}
 use Rattle.lists.specs.Tests.{by-test}
 use Rattle.lists.specs.Checks.{Check}
@@ -8,7 +8,6 @@ use Rattle.ranges.specs.Ranges.{U64MAX, span, span-some}
 use Rattle.rules_table.specs.declared.Object.{Object}
 use Rattle.rules_table.specs.declared.Mapping.{Mapping}
 use Rattle.rules_calls.specs.declared.Edit.{Edit}
-use Rattle.rules_calls.specs.Edits.{is_none}
 use Rattle.rules_calls.specs.Map.{MapFields, map_number_checks, map_checks, map_edit}
 use Rattle.rules_calls.specs.Copy.{CopyFields, copy_number_checks, copy_checks, copy_edit}
 use Rattle.rules_calls.specs.Unmap.{UnmapFields, asks_all, range_asked, unmap_number_checks, unmap_checks, unmap_edit}

@@ -1,8 +1,10 @@
 -- Checks one by one, and an edit after them: a refusal where one fired, else what the call changes.
-use Rattle.std.specs.Prelude.{ℕ, zero, suc, ◌≤◌, ◌≡◌, refl, Bool, true, false, List, [], ◌∷◌, ◌++◌, Option, None, Some}
+use Rattle.std.specs.Prelude.{ℕ, zero, suc, ◌≤◌, ◌≡◌, refl, Bool, true, false, List, [], ◌∷◌, ◌++◌, Option, None, Some, Result, Ok, Err}
 use Rattle.std.proofs.Common.{sym, ap, ◌∙◌, arith}
 use Rattle.lists.specs.Tests.{by-test, contrary}
 use Rattle.lists.specs.Checks.{Check, when, first, first-append, first-fires, first_passes}
+use Rattle.checks.specs.declared.Errno.{Errno}
+use Rattle.checks.specs.Refused.{number_of, refused, number-some}
 use Rattle.rules_table.specs.declared.Object.{Object}
 use Rattle.rules_table.specs.Records.{is_space, object_at}
 use Rattle.rules_calls.specs.declared.Edit.{Edit}
@@ -18,6 +20,11 @@ checked-last b c n r ok e f = e ∙ ap (λ (x : Bool). first (when x n ∷ []) o
 
 -- ---- the edit
 
+-- what was decided: the edit, or the refusal by its number
+abbrev pub decided : Result Edit Errno → Edit
+decided (Ok e) = e
+decided (Err n) = refuse (number_of n)
+
 pub settle-refused : (n m : ℕ) (r e : Edit) → n ≡ m → (n ≡ 0 → ⊥) → r ≡ refuse n → r ≡ settle m e
 settle-refused n zero r e s h k = absurd (h s)
 settle-refused n (suc m) r e s h k = k ∙ ap refuse s
@@ -25,6 +32,19 @@ settle-refused n (suc m) r e s h k = k ∙ ap refuse s
 pub settle-taken : (n m : ℕ) (r e : Edit) → n ≡ m → n ≡ 0 → r ≡ e → r ≡ settle m e
 settle-taken n zero r e s h k = k
 settle-taken n (suc m) r e s h k = absurd (omega arith)
+
+-- a function that ends early by ? tells the refusal of the checks; one that goes on, its edit
+pub refused-err : {A : Type 0} (r : Result A Errno) (e : Errno) → r ≡ Err e → refused r ≡ 0 → ⊥
+refused-err r e p z = number-some e (sym (ap refused p) ∙ z)
+
+pub refused-ok : {A : Type 0} (r : Result A Errno) (a : A) → r ≡ Ok a → refused r ≡ 0
+refused-ok r a p = ap refused p
+
+pub settle-err : {A : Type 0} (r : Result A Errno) (e : Errno) (m : ℕ) (d : Result Edit Errno) (x : Edit) → r ≡ Err e → d ≡ Err e → refused r ≡ m → decided d ≡ settle m x
+settle-err {A} r e m d x p q s = settle-refused (refused r) m (decided d) x s (refused-err r e p) (ap decided q ∙ sym (ap (λ (r : Result A Errno). refuse (refused r)) p))
+
+pub settle-ok : {A : Type 0} (r : Result A Errno) (a : A) (m : ℕ) (d x : Edit) → r ≡ Ok a → refused r ≡ m → d ≡ x → d ≡ settle m x
+settle-ok r a m d x p s = settle-taken (refused r) m d x s (refused-ok r a p)
 
 -- ---- "no record: 12" at the end of a list: what `added` refuses by itself
 

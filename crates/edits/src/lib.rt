@@ -5,10 +5,12 @@ ghost use Rattle.std.specs.Prelude.{cond, map, List, ◌≡◌, ◌<◌, ◌-◌
 ghost use Rattle.rules_table.specs.Records.{free_object, new_space, zero_mapping, within, release};
 ghost use Rattle.rules_calls.specs.Edits.{refuse, accept, tells, applied, added};
 ghost use Rattle.rules_calls.specs.Answers.{outcome, outcome_id, fresh_answer};
+ghost use Rattle.edits.specs.Settled.{decided};
 ghost use Rattle.edits.specs.Parts.{put_object, drop_space, put_mapping, clear_inside};
 ghost use Rattle.rules_table.specs.Charge.{free_record};
 
-use rangelists::{Allowed, Reserved};
+use checks::Errno;
+use rangelists::RangeList;
 use ranges::Range;
 use rules_calls::{Answer, Change, Edit};
 use rules_table::{Kind, Mapping, Object, Table};
@@ -23,16 +25,8 @@ pub fn free_object() -> Object
     Object {
         kind: Kind::Free,
         bitmap: 0,
-        reserved: Reserved {
-            count: 0,
-            starts: [0; 4],
-            lasts: [0; 4],
-        },
-        allow: Allowed {
-            count: 0,
-            starts: [0; 8],
-            lasts: [0; 8],
-        },
+        reserved: RangeList::empty(),
+        allow: RangeList::empty(),
     }
 }
 
@@ -54,6 +48,16 @@ pub fn refusal(errno: u8) -> Edit
         value: 0,
         change: Change::Nothing,
         object: free_object(),
+    }
+}
+
+// What was decided: the edit, or the refusal by its number.
+pub fn decided(e: Result<Edit, Errno>) -> Edit
+    ensures { result ≡ decided e }
+{
+    match e {
+        Ok(edit) => edit,
+        Err(errno) => refusal(errno.number()),
     }
 }
 
@@ -86,26 +90,11 @@ pub fn put_object(t: Table, i: usize, object: Object) -> Table
     next
 }
 
-// A mapping record that holds nothing.
-fn zero_mapping() -> Mapping
-    ensures { result ≡ zero_mapping }
-{
-    Mapping {
-        space: 0,
-        rights: 0,
-        founder: 0,
-        backing: 0,
-        address: 0,
-        length: 0,
-        memory: 0,
-    }
-}
-
 // A record that goes becomes all zero, another stays.
 fn released(gone: bool, m: Mapping) -> Mapping
     ensures { result ≡ cond gone zero_mapping m }
 {
-    if gone { zero_mapping() } else { m }
+    if gone { table::zero_mapping() } else { m }
 }
 
 // The mapping records with those of a space inside a range released.
@@ -145,10 +134,7 @@ pub fn drop_space(t: Table, i: usize) -> Table
     if 32 <= i {
         return t;
     }
-    let all = Range {
-        start: 0,
-        last: ranges::U64MAX,
-    };
+    let all = ranges::EVERYWHERE;
     let mut next = t;
     next.objects[i] = free_object();
     next.mappings = cleared(t.mappings, (i + 1) as u32, all);
@@ -200,7 +186,7 @@ pub fn fresh(limit: u64) -> Answer
     let table = Table {
         limit,
         objects: [free_object(); 32],
-        mappings: [zero_mapping(); 128],
+        mappings: [table::zero_mapping(); 128],
     };
     let result = if limit <= HIGHEST_LIMIT { 0 } else { -22 };
     Answer { result, table }

@@ -10,7 +10,7 @@ use Rattle.rules_table.specs.declared.Mapping.{Mapping}
 use Rattle.rules_table.specs.declared.Table.{Table}
 use Rattle.rules_table.specs.Good.{good}
 use Rattle.rules_calls.specs.declared.Command.{Command}
-use Rattle.rules_calls.specs.Requests.{request_of, lookup}
+use Rattle.rules_calls.specs.Requests.{lookup}
 use Rattle.rules_index.specs.Index.{agrees}
 use Rattle.rules_index.specs.Board.{Board, good_board}
 use Rattle.rules_reasons.specs.declared.Reason.{Reason}

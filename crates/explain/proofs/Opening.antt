@@ -1,16 +1,15 @@
 -- The opening by its reasons.
 use Rattle.std.specs.Prelude.{Option, Some, Ok, Err}
-use Prim.Native.Nat.{ℕ, zero, suc, ◌≤◌, ◌<◌}
-use mathlib.Core.Path.{◌≡◌, refl, sym, ap, subst, ◌∙◌}
-use mathlib.Core.Bool.{Bool, true, false, not}
+use Prim.Native.Nat.{ℕ, ◌≤◌, ◌<◌}
+use mathlib.Core.Path.{◌≡◌, refl, sym, ap, ◌∙◌}
+use mathlib.Core.Bool.{Bool, false}
 use mathlib.Core.List.{List, [], ◌∷◌}
 use native.Mathlib.Omega.{arith}
-use lib.Dec.{ltb}
 use lib.ListN.{length, get_or}
 use borrow.Author.Tests.{ltb-false}
 use Rattle.lists.specs.Tests.{by-test}
 use Rattle.lists.specs.Checks.{Check, when, first, first-nil, first-fires, first_passes, first-stays, first_goes, Refusals, passed}
-use Rattle.wire.specs.Fields.{zeros, field}
+use Rattle.wire.specs.Fields.{field}
 use Rattle.rules_table.specs.declared.Object.{Object}
 use Rattle.rules_table.specs.declared.Mapping.{Mapping}
 use Rattle.rules_calls.specs.Map.{map_fields}
@@ -20,8 +19,7 @@ use Rattle.rules_calls.specs.declared.Command.{Command}
 use Rattle.rules_calls.specs.Opening.{Opening}
 use Rattle.rules_calls.specs.declared.Unopened.TheVariants.{NoSizeField, SizeTooSmall, SizePastBytes, TailNotZero}
 use Rattle.rules_calls.specs.Requests.{request_of, lookup}
-use Rattle.rules_calls.specs.Opening.{size_field, tail, size_checks, open_checks, open_row, opened}
-use Rattle.check_mappings.specs.Told.{page_of}
+use Rattle.rules_calls.specs.Opening.{size_field, size_checks, open_checks, open_row, opened}
 use Rattle.rules_reasons.specs.declared.Reason.{Reason}
 use Rattle.rules_reasons.specs.declared.Reason.TheVariants as reason
 use Rattle.rules_reasons.specs.Reasons.{named, open_names, map_reason, copy_reason}
@@ -86,12 +84,6 @@ module _ (known : ℕ) (bytes : List ℕ) where
     pub open_long : o ≡ reason.Accepted → known ≤ length bytes
     unfolding open_or open_checks size_checks named
     open_long z = omega (arith, ltb-false (size_field bytes) known (check z 1 (omega arith)), ltb-false (length bytes) (size_field bytes) (check z 2 (omega arith)))
-
--- an alignment that is not 0 is that of an id
-pub page-pos : (pages : List ℕ) (s r : ℕ) → r ≡ page_of pages s → 0 < r → 0 < s
-unfolding page_of
-page-pos pages zero r e h = absurd (omega (arith, e, h))
-page-pos pages (suc s) r e h = omega arith
 
 -- ---- the fields of a command, as they are read
 

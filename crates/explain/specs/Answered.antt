@@ -1,5 +1,5 @@
 -- What the tool answers: the rule's answer, and no run that no word holds.
-use Rattle.std.specs.Prelude.{ℕ, ◌≤◌, ◌≡◌, Ok, Err}
+use Rattle.std.specs.Prelude.{◌≤◌, ◌≡◌, Ok, Err}
 use Rattle.ranges.specs.Ranges.{U64MAX}
 use Rattle.rules_calls.specs.Opening.{Opening}
 use Rattle.rules_calls.specs.declared.Unopened.TheVariants.{UnknownRequest, NoSizeField, SizeTooSmall, SizePastBytes, TailNotZero}

@@ -9,14 +9,13 @@ ghost use Rattle.rules_calls.specs.Requests.{request_of};
 ghost use Rattle.rules_calls.specs.Map.{map_fields};
 ghost use Rattle.rules_calls.specs.Copy.{copy_fields};
 ghost use Rattle.layout_mappings.specs.Words.{records_of};
-ghost use Rattle.check_table.specs.Known.{Known};
 ghost use Rattle.rules_reasons.specs.declared.Reason.TheVariants.{Accepted};
 ghost use Rattle.rules_reasons.specs.Reasons.{map_reason, copy_reason};
 ghost use Rattle.rules_reasons.specs.Explain.{open_or, row_told, board_explained, explained};
 ghost use Rattle.reason_words.specs.Words.{Tells};
 ghost use Rattle.explain.specs.Answered.{opening_reason, Answered};
 
-use check_table::Findings;
+use check_table::GoodTable;
 use landing::Target;
 use rules_calls::{Command, Unopened};
 use rules_reasons::Reason;
@@ -37,18 +36,9 @@ fn opening_reason(opening: Result<Command, Unopened>) -> Reason
 }
 
 // Why a MAP is refused, over a good table and by what the check has found of it.
-fn map_reason<'a>(
-    h: &'a [u64; 865],
-    ws: &'a [[u64; 5]],
-    ix: &'a [u64],
-    pages: &'a [u64],
-    marks: &'a [u8],
-    f: Findings,
-    opened: Reason,
-    cmd: &'a [u8],
-) -> Reason
-    requires { (opened ≡ open_or 40 cmd.now Accepted) × Known (objects_in h.now) (records_of ws.now) ix.now pages.now marks.now f }
-    ensures { Tells (open_or 40 cmd.now (map_reason (head_in h.now).limit (objects_in h.now) (records_of ws.now) (map_fields cmd.now))) result }
+fn map_reason(good: &GoodTable, opened: Reason, cmd: &[u8]) -> Reason
+    requires { opened ≡ open_or 40 cmd.now Accepted }
+    ensures { Tells (open_or 40 cmd.now (map_reason (head_in good.now.head.now).limit (objects_in good.now.head.now) (records_of good.now.records.now) (map_fields cmd.now))) result }
 {
     if !reason_words::is_accepted(opened) {
         return opened;
@@ -60,25 +50,25 @@ fn map_reason<'a>(
         length: wire::read64(cmd, 24),
         address: wire::read64(cmd, 32),
     };
-    let p = f.mappings;
-    let a = check_mappings::page_of(pages, space);
+    let a = good.page_of(space);
     let zero = wire::read32(cmd, 12);
     let memory = wire::read64(cmd, 16);
-    cmd_explain::map_reason(h, ws, ix, f.listed, p, marks, a, target, zero, memory)
+    cmd_explain::map_reason(
+        good.head,
+        &good.mappings(),
+        good.found.mappings,
+        good.marks,
+        a,
+        target,
+        zero,
+        memory,
+    )
 }
 
 // Why a COPY is.
-fn copy_reason<'a>(
-    h: &'a [u64; 865],
-    ws: &'a [[u64; 5]],
-    ix: &'a [u64],
-    pages: &'a [u64],
-    f: Findings,
-    opened: Reason,
-    cmd: &'a [u8],
-) -> Reason
-    requires { (opened ≡ open_or 40 cmd.now Accepted) × ((marks : List ℕ) × Known (objects_in h.now) (records_of ws.now) ix.now pages.now marks f) }
-    ensures { Tells (open_or 40 cmd.now (copy_reason (objects_in h.now) (records_of ws.now) (copy_fields cmd.now))) result }
+fn copy_reason(good: &GoodTable, opened: Reason, cmd: &[u8]) -> Reason
+    requires { opened ≡ open_or 40 cmd.now Accepted }
+    ensures { Tells (open_or 40 cmd.now (copy_reason (objects_in good.now.head.now) (records_of good.now.records.now) (copy_fields cmd.now))) result }
 {
     if !reason_words::is_accepted(opened) {
         return opened;
@@ -91,41 +81,25 @@ fn copy_reason<'a>(
         length: wire::read64(cmd, 16),
         address: wire::read64(cmd, 24),
     };
-    let a = check_mappings::page_of(pages, space);
-    let b = check_mappings::page_of(pages, source);
+    let a = good.page_of(space);
+    let b = good.page_of(source);
     let from = wire::read64(cmd, 32);
-    cmd_explain::copy_reason(h, ws, ix, f.listed, a, b, target, source, from)
+    cmd_explain::copy_reason(good.head, &good.mappings(), a, b, target, source, from)
 }
 
 // By the command: MAP and COPY are told, every other request is 25.
-fn explain_command<'a>(
-    h: &'a [u64; 865],
-    ws: &'a [[u64; 5]],
-    ix: &'a [u64],
-    pages: &'a [u64],
-    marks: &'a [u8],
-    f: Findings,
-    c: Command,
-    opened: Reason,
-    cmd: &'a [u8],
-) -> Result<Reason, u8>
-    requires { (opened ≡ open_or (request_of c).size cmd.now Accepted) × Known (objects_in h.now) (records_of ws.now) ix.now pages.now marks.now f }
-    ensures { Answered (row_told (Some c) (table_with (head_in h.now).limit (objects_in h.now) (records_of ws.now)) cmd.now) result }
+fn explain_command(good: &GoodTable, c: Command, opened: Reason, cmd: &[u8]) -> Result<Reason, u8>
+    requires { opened ≡ open_or (request_of c).size cmd.now Accepted }
+    ensures { Answered (row_told (Some c) (table_with (head_in good.now.head.now).limit (objects_in good.now.head.now) (records_of good.now.records.now)) cmd.now) result }
 {
     match c {
-        Command::Destroy => Err(25),
-        Command::IoasAlloc => Err(25),
-        Command::AllowIovas => Err(25),
-        Command::Copy => {
-            let r = copy_reason(h, ws, ix, pages, f, opened, cmd);
-            Ok(r)
-        }
-        Command::IovaRanges => Err(25),
-        Command::Map => {
-            let r = map_reason(h, ws, ix, pages, marks, f, opened, cmd);
-            Ok(r)
-        }
-        Command::Unmap => Err(25),
+        Command::Copy => Ok(copy_reason(good, opened, cmd)),
+        Command::Map => Ok(map_reason(good, opened, cmd)),
+        Command::Destroy
+        | Command::IoasAlloc
+        | Command::AllowIovas
+        | Command::IovaRanges
+        | Command::Unmap => Err(25),
     }
 }
 
@@ -142,16 +116,22 @@ pub fn decide<'a>(
 {
     let mut pages: [u64; 33] = [0; 33];
     let mut marks: [u8; 129] = [0; 129];
-    let f = check_table::check(h, ws, ix, &mut pages, &mut marks);
-    if !f.good {
+    let Some(found) = check_table::check(h, ws, ix, &mut pages, &mut marks) else {
         return Err(117);
-    }
+    };
     let Some(c) = opening::look_up(request) else {
         return Err(25);
     };
-    let opening = opening::open(request, cmd);
-    let opened = opening_reason(opening);
-    explain_command(h, ws, ix, &pages, &marks, f, c, opened, cmd)
+    let good = GoodTable {
+        head: h,
+        records: ws,
+        index: ix,
+        pages: &pages,
+        marks: &marks,
+        found,
+    };
+    let opened = opening_reason(opening::open(request, cmd));
+    explain_command(&good, c, opened, cmd)
 }
 
 // The same of a table by value.

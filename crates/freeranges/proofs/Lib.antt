@@ -2,4 +2,3 @@ pub mod Fewest
 pub mod Free
 pub mod From
 pub mod Scanning
-pub mod Writing

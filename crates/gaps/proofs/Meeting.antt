@@ -5,10 +5,10 @@ use mathlib.Core.Path.{◌≡◌, refl, sym, ap, subst, ◌∙◌}
 use mathlib.Core.Bool.{Bool, true, false, ◌&&◌}
 use mathlib.Core.List.{List, []}
 use native.Mathlib.Omega.{arith}
-use lib.Dec.{leb, ltb, eqb}
+use lib.Dec.{leb, ltb}
 use lib.ListN.{length, get_or}
-use borrow.Author.Tests.{leb-true, le-leb, lt-leb, lt-ltb, le-ltb, ltb-true, eq-eqb, ne_eqb}
-use Rattle.lists.specs.Tests.{and_left, and_right, and_both, and_not_left, and_not_right}
+use borrow.Author.Tests.{leb-true, le-leb, lt-leb, lt-ltb, le-ltb, ltb-true}
+use Rattle.lists.specs.Tests.{and_left, and_right, and_not_left}
 use Rattle.ranges.specs.declared.Range.{Range}
 use Rattle.ranges.specs.Ranges.{U64MAX, share, shared_start, shared_last, span, last_of, span-some}
 use Rattle.alignment.specs.Multiples.{lowest_multiple}
@@ -22,23 +22,9 @@ use Rattle.gaps.specs.Steps.{begins_by, meets, Stepped, StepBy}
 -- ---- the words of a record
 
 module _ (ws : List (List ℕ)) (i : ℕ) where
-  pub extent-is : (r : Range) (a n : ℕ) → r ≡ span a n → a ≡ get_or (get_or ws i []) 2 0 → n ≡ get_or (get_or ws i []) 3 0 → r ≡ extent (record_at ws i)
+  pub extent-is : (r : Range) (a n : ℕ) → r ≡ span a n → a ≡ (record_at ws i).address → n ≡ get_or (get_or ws i []) 3 0 → r ≡ extent (record_at ws i)
   unfolding extent
-  extent-is r a n e f g = e ∙ rw (f, g) (ap (λ (m : Mapping). span m.address m.length) (sym (records-at ws i)))
-
-  address_is : get_or (get_or ws i []) 2 0 ≡ (record_at ws i).address
-  address_is = ap (λ (m : Mapping). m.address) (sym (records-at ws i))
-
-  module _ (s x t : ℕ) (e : t ≡ (record_at ws i).space) where
-    pub begins-elsewhere : (t ≡ s → ⊥) → false ≡ begins_by s x (record_at ws i)
-    unfolding begins_by of_space
-    begins-elsewhere h = sym (and_not_left (eqb (record_at ws i).space s) (leb (record_at ws i).address x) (ne_eqb (record_at ws i).space s (λ q. h (e ∙ q))))
-
-    -- b tells whether it begins by x
-    pub begins-here : t ≡ s → (b : Bool) → (b ≡ true → get_or (get_or ws i []) 2 0 ≤ x) → (b ≡ false → x < get_or (get_or ws i []) 2 0) → b ≡ begins_by s x (record_at ws i)
-    unfolding begins_by of_space
-    begins-here h true y n = sym (and_both (eqb (record_at ws i).space s) (leb (record_at ws i).address x) (eq-eqb (record_at ws i).space s (sym e ∙ h)) (le-leb (record_at ws i).address x (omega (arith, y refl, address_is))))
-    begins-here h false y n = sym (and_not_right (of_space s (record_at ws i)) (leb (record_at ws i).address x) (lt-leb (record_at ws i).address x (omega (arith, n refl, address_is))))
+  extent-is r a n e f g = e ∙ rw (f, g) (ap (λ (m : Mapping). span (record_at ws i).address m.length) (sym (records-at ws i)))
 
 -- ---- the mapping at a place
 

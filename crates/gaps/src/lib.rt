@@ -11,9 +11,9 @@ ghost use Rattle.rules_table.specs.Words.{objects_in};
 ghost use Rattle.rules_calls.specs.Landing.{blocked_in};
 ghost use Rattle.rules_index.specs.Index.{view};
 ghost use Rattle.layout_mappings.specs.Words.{records_of, record_at};
-ghost use Rattle.index_search.specs.Indexed.{Indexed};
 ghost use Rattle.gaps.specs.Steps.{begins_by, meets, Stands, Stepped};
 
+use index_search::Mappings;
 use placement::{Search, Want};
 use ranges::Range;
 
@@ -28,52 +28,45 @@ struct Step {
 // ---- a mapping of the index
 
 // The slot of the mapping at place k.
-fn slot_of<'a>(ws: &'a [[u64; 5]], ix: &'a [u64], n: usize, k: usize) -> usize
-    requires { Indexed n ix.now (records_of ws.now) × (k < n) }
-    ensures { (record_at ws.now result ≡ get_or (view (take n ix.now) (records_of ws.now)) k zero_mapping) × (result < length ws.now) }
+fn slot_of(m: &Mappings, k: usize) -> usize
+    requires { k < m.now.listed }
+    ensures { (record_at m.now.records.now result ≡ get_or (view (take m.now.listed m.now.index.now) (records_of m.now.records.now)) k zero_mapping)
+        × (result < length m.now.records.now) }
 {
-    index_search::slot_at(ix, k)
-}
-
-fn space_at(ws: &[[u64; 5]], i: usize) -> u32
-    requires { i < length ws.now }
-    ensures { result ≡ (record_at ws.now i).space }
-{
-    (ws[i][0] % 4294967296) as u32
+    index_search::slot_at(m.index, k)
 }
 
 fn extent_at(ws: &[[u64; 5]], i: usize) -> Range
     requires { i < length ws.now }
     ensures { result ≡ extent (record_at ws.now i) }
 {
-    ranges::span_of(ws[i][2], ws[i][3])
+    ranges::span_of(layout_mappings::address_at(ws, i), ws[i][3])
 }
 
 // Whether the record in a slot is of space s and begins at or before address x.
+#[tactic(auto, unfolding(crate::specs::Steps::begins_by, rules_table::specs::Records::of_space))]
 fn begins_by(ws: &[[u64; 5]], i: usize, s: u32, x: u64) -> bool
     requires { i < length ws.now }
     ensures { result ≡ begins_by s x (record_at ws.now i) }
 {
-    space_at(ws, i) == s && ws[i][2] <= x
+    layout_mappings::space_at(ws, i) == s && layout_mappings::address_at(ws, i) <= x
 }
 
 // Whether there is such a mapping at place k.
-fn is_met<'a>(ws: &'a [[u64; 5]], ix: &'a [u64], n: usize, k: usize, s: u32, x: u64) -> bool
-    requires { Indexed n ix.now (records_of ws.now) }
-    ensures { result ≡ meets (view (take n ix.now) (records_of ws.now)) k s x }
+fn is_met(m: &Mappings, k: usize, s: u32, x: u64) -> bool
+    ensures { result ≡ meets (view (take m.now.listed m.now.index.now) (records_of m.now.records.now)) k s x }
 {
-    k < n && begins_by(ws, slot_of(ws, ix, n, k), s, x)
+    k < m.listed && begins_by(m.records, slot_of(m, k), s, x)
 }
 
 // ---- the walk
 
 // Where the walk from address x goes in: at the last mapping that begins at or before it, where that is one of the space, else behind it.
-fn entry_of<'a>(ws: &'a [[u64; 5]], ix: &'a [u64], n: usize, s: u32, x: u64) -> usize
-    requires { Indexed n ix.now (records_of ws.now) }
-    ensures { Stands (view (take n ix.now) (records_of ws.now)) s x result }
+fn entry_of(m: &Mappings, s: u32, x: u64) -> usize
+    ensures { Stands (view (take m.now.listed m.now.index.now) (records_of m.now.records.now)) s x result }
 {
-    let p = index_search::count_entered(ws, ix, n, true, s, x);
-    if 0 < p && space_at(ws, slot_of(ws, ix, n, p - 1)) == s {
+    let p = m.count_entered(true, s, x);
+    if 0 < p && layout_mappings::space_at(m.records, slot_of(m, p - 1)) == s {
         return p - 1;
     }
     p
@@ -94,23 +87,14 @@ fn past_met(w: Want, x: u64, q: Range) -> Option<u64>
 }
 
 // One step from an address with room: past the mapping at place k where the bytes from x on meet it, else past the reserved ranges that they touch.
-fn go_on<'a>(
-    h: &'a [u64; 865],
-    ws: &'a [[u64; 5]],
-    ix: &'a [u64],
-    n: usize,
-    s: u32,
-    w: Want,
-    x: u64,
-    k: usize,
-) -> Step
-    requires { Indexed n ix.now (records_of ws.now) × (x + (w.length - 1) ≤ U64MAX) }
-    ensures { Stepped w.alignment w.length s (view (take n ix.now) (records_of ws.now)) (reserved_of (objects_in h.now) s) x k
+fn go_on(h: &[u64; 865], m: &Mappings, s: u32, w: Want, x: u64, k: usize) -> Step
+    requires { x + (w.length - 1) ≤ U64MAX }
+    ensures { Stepped w.alignment w.length s (view (take m.now.listed m.now.index.now) (records_of m.now.records.now)) (reserved_of (objects_in h.now) s) x k
         result.spot result.place result.jumps }
 {
     let last = x + placement::behind(w.length);
-    if is_met(ws, ix, n, k, s, last) {
-        let spot = past_met(w, x, extent_at(ws, slot_of(ws, ix, n, k)));
+    if is_met(m, k, s, last) {
+        let spot = past_met(w, x, extent_at(m.records, slot_of(m, k)));
         return Step {
             spot,
             place: k + 1,
@@ -126,19 +110,10 @@ fn go_on<'a>(
 }
 
 // The lowest place in one window. Each mapping of the space and each reserved range is left behind at most once.
-pub fn gap_in<'a>(
-    h: &'a [u64; 865],
-    ws: &'a [[u64; 5]],
-    ix: &'a [u64],
-    n: usize,
-    s: u32,
-    w: Want,
-    window: Range,
-) -> Search
-    requires { Indexed n ix.now (records_of ws.now) }
+pub fn gap_in(h: &[u64; 865], m: &Mappings, s: u32, w: Want, window: Range) -> Search
     ensures { (0 < s → result.spot ≡ (place_of w.alignment w.length w.low
-        (blocked_in (objects_in h.now) (records_of ws.now) s) (window ∷ [])))
-        × (result.jumps ≤ length (blocked_in (objects_in h.now) (records_of ws.now) s)) }
+        (blocked_in (objects_in h.now) (records_of m.now.records.now) s) (window ∷ [])))
+        × (result.jumps ≤ length (blocked_in (objects_in h.now) (records_of m.now.records.now) s)) }
 {
     let first = alignment::lowest_multiple(w.alignment, w.low.max(window.start));
     let Some(start) = first else {
@@ -148,13 +123,13 @@ pub fn gap_in<'a>(
         };
     };
     let mut x = start;
-    let mut k = entry_of(ws, ix, n, s, start);
+    let mut k = entry_of(m, s, start);
     let mut jumps: usize = 0;
     loop {
         if !placement::has_room(w.length, x, window) {
             return Search { spot: None, jumps };
         }
-        let r = go_on(h, ws, ix, n, s, w, x, k);
+        let r = go_on(h, m, s, w, x, k);
         jumps += r.jumps;
         let Some(y) = r.spot else {
             return Search { spot: None, jumps };

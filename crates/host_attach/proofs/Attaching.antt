@@ -2,9 +2,9 @@
 use Prim.Native.Nat.{ℕ, ◌-◌, ◌<◌, max}
 use mathlib.Core.Path.{◌≡◌, sym, ap, ◌∙◌}
 use mathlib.Core.Bool.{Bool, ◌||◌}
-use mathlib.Core.List.{List}
+use mathlib.Core.List.{List, [], ◌∷◌}
 use Rattle.lists.specs.Search.{any}
-use Rattle.lists.specs.Checks.{first, first-stays, first_goes}
+use Rattle.lists.specs.Checks.{Check, when, first, first-append, first-stays, first_goes}
 use Rattle.ranges.specs.declared.Range.{Range}
 use Rattle.alignment.specs.Pages.{smallest_page}
 use Rattle.rangelists.specs.Listed.{allowed}
@@ -20,6 +20,15 @@ use Rattle.edits.specs.Settled.{settle-refused, settle-taken}
 use Rattle.rules_calls.specs.Attach.{blocked_by, misfits, alignment_with, attached_object, attach_checks, attach_edit}
 use Rattle.check_reserved.specs.Clear.{strikes}
 use Rattle.host_attach.specs.Attached.{attach_kinds, attach_fits, attach_parts, kinds-refuse, kinds-space, struck_blocked}
+
+-- the first check by itself: it fires, or leaves the answer to those after it. b is what the code found of it
+pub check-fires : (b c : Bool) (n r : ℕ) (cs : List (Check ℕ)) → r ≡ first (when b n ∷ []) 0 → (r ≡ 0 → ⊥) → b ≡ c → r ≡ first (when c n ∷ cs) 0
+check-fires b c n r cs e h f =
+    first-stays (when b n ∷ []) 0 r (first cs 0) e h ∙ ap (λ (x : Bool). first (when x n ∷ []) (first cs 0)) f ∙ sym (first-append (when c n ∷ []) cs 0)
+
+pub check-passes : (b c : Bool) (n r : ℕ) (cs : List (Check ℕ)) → (n ≡ 0 → ⊥) → 0 ≡ first (when b n ∷ []) 0 → b ≡ c → r ≡ first cs 0 → r ≡ first (when c n ∷ cs) 0
+check-passes b c n r cs h e f k =
+    k ∙ first_goes (when b n ∷ []) 0 (first cs 0) (h, tt) e ∙ ap (λ (x : Bool). first (when x n ∷ []) (first cs 0)) f ∙ sym (first-append (when c n ∷ []) cs 0)
 
 -- the checks of attach, by what is known of the space: h is its object and a its alignment
 module _ (os : List Object) (s a : ℕ) (h : Object) (eh : h ≡ object_at os s) (ea : a ≡ alignment os s) where

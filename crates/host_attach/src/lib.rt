@@ -8,9 +8,12 @@ ghost use Rattle.rules_table.specs.Records.{object_at};
 ghost use Rattle.rules_table.specs.Spaces.{alignment};
 ghost use Rattle.rules_calls.specs.Attach.{misfits, attached_object, attach_edit};
 ghost use Rattle.layout_mappings.specs.Words.{records_of};
-ghost use Rattle.index_search.specs.Indexed.{Indexed};
 ghost use Rattle.host_attach.specs.Attached.{attach_kinds, attach_fits};
+ghost use Rattle.checks.specs.Refused.{refused};
+ghost use Rattle.edits.specs.Settled.{decided};
 
+use checks::{Errno, refuse_if};
+use index_search::Mappings;
 use rules_calls::{Change, Edit};
 use rules_table::{Attachment, Kind, Mapping, Object};
 
@@ -35,40 +38,28 @@ fn some_misfit(ws: &[[u64; 5]], s: u32, a: u64) -> bool
 }
 
 // o is the object to attach, h the object of the space's id.
-fn attach_kind_errno(o: Object, h: Object) -> u8
-    ensures { result ≡ first (attach_kinds o h) 0 }
+#[tactic(auto, unfolding(lists::specs::Checks::first, crate::specs::Attached::attach_kinds))]
+fn kind_checks(o: Object, h: Object) -> Result<(), Errno>
+    ensures { refused result ≡ first (attach_kinds o h) 0 }
 {
-    let device = table::is_device(o.kind);
-    let attached = table::is_attached(o.kind);
-    let space = table::is_space(h.kind);
-    checks::refuse_if(
-        !device,
-        2,
-        checks::refuse_if(!space, 2, checks::refuse_if(attached, 16, 0)),
-    )
+    refuse_if(!table::is_device(o.kind), Errno::ENOENT)?;
+    refuse_if(!table::is_space(h.kind), Errno::ENOENT)?;
+    refuse_if(table::is_attached(o.kind), Errno::EBUSY)
 }
 
 // What stands in space s, of alignment a: its mappings and its allow list against the reserved ranges, its mappings against the alignment.
-fn attach_fit_errno<'a>(
-    o: Object,
-    h: Object,
-    a: u64,
-    ws: &'a [[u64; 5]],
-    ix: &'a [u64],
-    listed: usize,
-    s: u32,
-) -> u8
-    requires { Indexed listed ix.now (records_of ws.now) }
-    ensures { (os : List Object) → h ≡ object_at os s → a ≡ alignment os s → 0 < s → result ≡ first (attach_fits os (records_of ws.now) o s) 0 }
+fn fit_checks(o: Object, h: Object, a: u64, ms: &Mappings, s: u32) -> Result<(), Errno>
+    ensures { (os : List Object) → h ≡ object_at os s → a ≡ alignment os s → 0 < s → refused result ≡ first (attach_fits os (records_of ms.now.records.now) o s) 0 }
 {
-    let blocked = check_reserved::list_struck(o.reserved, ws, ix, listed, s)
+    let blocked = check_reserved::list_struck(&o.reserved.in_use(), ms, s)
         || table::lists_touch(o.reserved, h.allow);
+    refuse_if(blocked, Errno::EADDRINUSE)?;
     let page = alignment::smallest_page(o.bitmap);
     let higher = page.max(a);
-    let misaligned = some_misfit(ws, s, higher);
-    checks::refuse_if(blocked, 98, checks::refuse_if(misaligned, 98, 0))
+    refuse_if(some_misfit(ms.records, s, higher), Errno::EADDRINUSE)
 }
 
+#[tactic(auto, unfolding(rules_calls::specs::Attach::attached_object))]
 fn attached_object(o: Object, s: u32) -> Object
     ensures { result ≡ attached_object o s }
 {
@@ -78,27 +69,19 @@ fn attached_object(o: Object, s: u32) -> Object
     }
 }
 
-// o and h are the objects of ids d and s, a the alignment of s.
-pub fn decide_attach<'a>(
-    o: Object,
-    h: Object,
-    a: u64,
-    ws: &'a [[u64; 5]],
-    ix: &'a [u64],
-    listed: usize,
-    d: u32,
-    s: u32,
-) -> Edit
-    requires { Indexed listed ix.now (records_of ws.now) }
-    ensures { (os : List Object) → o ≡ object_at os d → h ≡ object_at os s → a ≡ alignment os s → result ≡ attach_edit os (records_of ws.now) d s }
+// The device attached, or why it is not.
+fn attach(o: Object, h: Object, a: u64, ms: &Mappings, d: u32, s: u32) -> Result<Edit, Errno>
+    ensures { (os : List Object) → o ≡ object_at os d → h ≡ object_at os s → a ≡ alignment os s → decided result ≡ attach_edit os (records_of ms.now.records.now) d s }
 {
-    let wrong = attach_kind_errno(o, h);
-    if wrong != 0 {
-        return edits::refusal(wrong);
-    }
-    let unfit = attach_fit_errno(o, h, a, ws, ix, listed, s);
-    if unfit != 0 {
-        return edits::refusal(unfit);
-    }
-    edits::acceptance(0, Change::Put(edits::slot_of(d)), attached_object(o, s))
+    kind_checks(o, h)?;
+    fit_checks(o, h, a, ms, s)?;
+    let change = Change::Put(edits::slot_of(d));
+    Ok(edits::acceptance(0, change, attached_object(o, s)))
+}
+
+// o and h are the objects of ids d and s, a the alignment of s.
+pub fn decide_attach(o: Object, h: Object, a: u64, ms: &Mappings, d: u32, s: u32) -> Edit
+    ensures { (os : List Object) → o ≡ object_at os d → h ≡ object_at os s → a ≡ alignment os s → result ≡ attach_edit os (records_of ms.now.records.now) d s }
+{
+    edits::decided(attach(o, h, a, ms, d, s))
 }

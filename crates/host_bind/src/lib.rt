@@ -7,41 +7,32 @@ ghost use Rattle.lists.specs.Checks.{first};
 ghost use Rattle.rules_table.specs.Charge.{free_record};
 ghost use Rattle.rules_table.specs.Fits.{bind_checks};
 ghost use Rattle.rules_calls.specs.Bind.{only_first, trimmed, new_device, bind_edit};
+ghost use Rattle.checks.specs.Refused.{refused};
+ghost use Rattle.edits.specs.Settled.{decided};
 
-use rangelists::{Allowed, Reserved};
+use checks::{Errno, refuse_if};
+use rangelists::{RangeList, Reserved};
 use rules_calls::Edit;
 use rules_table::{Attachment, Kind, Object};
 
-fn bind_errno(bitmap: u64, l: Reserved) -> u8
-    ensures { result ≡ first (bind_checks bitmap l) 0 }
+#[tactic(auto, unfolding(lists::specs::Checks::first, rules_table::specs::Fits::bind_checks))]
+fn bind_checks(bitmap: u64, l: Reserved) -> Result<(), Errno>
+    ensures { refused result ≡ first (bind_checks bitmap l) 0 }
 {
     let page = alignment::smallest_page(bitmap);
-    let wrong = bitmap == 0 || 4096 < page;
-    let ordered = rangelists::reserved_valid(l);
-    checks::refuse_if(
-        wrong,
-        22,
-        checks::refuse_if(4 < l.count, 22, checks::refuse_if(!ordered, 22, 0)),
-    )
+    refuse_if(bitmap == 0 || 4096 < page, Errno::EINVAL)?;
+    refuse_if(4 < l.count, Errno::EINVAL)?;
+    refuse_if(!l.is_valid(), Errno::EINVAL)
 }
 
-// A number at place i of a list whose first n places are in use.
-fn kept(i: usize, n: u32, x: u64) -> u64
-    ensures { result ≡ only_if (ltb i n) x }
-{
-    if i < n as usize { x } else { 0 }
-}
-
+// The numbers of a list whose first n places are in use, with zero in the others.
 fn only_first(xs: [u64; 4], n: u32) -> [u64; 4]
     ensures { result ≡ only_first n xs }
 {
-    let mut next = [0; 4];
-    for i in 0..4 {
-        next[i] = kept(i, n, xs[i]);
-    }
-    next
+    std::array::from_fn(|i| if i < n as usize { xs[i] } else { 0 })
 }
 
+#[tactic(auto, unfolding(rules_calls::specs::Bind::trimmed))]
 fn trim(l: Reserved) -> Reserved
     ensures { result ≡ trimmed l }
 {
@@ -52,6 +43,7 @@ fn trim(l: Reserved) -> Reserved
     }
 }
 
+#[tactic(auto, unfolding(rules_calls::specs::Bind::new_device))]
 fn new_device(bitmap: u64, l: Reserved) -> Object
     ensures { result ≡ new_device bitmap l }
 {
@@ -59,21 +51,22 @@ fn new_device(bitmap: u64, l: Reserved) -> Object
         kind: Kind::Device(Attachment::Loose),
         bitmap,
         reserved: trim(l),
-        allow: Allowed {
-            count: 0,
-            starts: [0; 8],
-            lasts: [0; 8],
-        },
+        allow: RangeList::empty(),
     }
+}
+
+// The edit, or why there is none.
+#[tactic(auto, using(crate::proofs::Binding::bind_record))]
+fn bind(free: Option<usize>, bitmap: u64, l: Reserved) -> Result<Edit, Errno>
+    ensures { (os : List Object) → length os ≡ 32 → free ≡ free_record os → decided result ≡ bind_edit os bitmap l }
+{
+    bind_checks(bitmap, l)?;
+    Ok(edits::add_new(free, new_device(bitmap, l)))
 }
 
 // free is the lowest free record.
 pub fn decide_bind(free: Option<usize>, bitmap: u64, l: Reserved) -> Edit
     ensures { (os : List Object) → length os ≡ 32 → free ≡ free_record os → result ≡ bind_edit os bitmap l }
 {
-    let errno = bind_errno(bitmap, l);
-    if errno != 0 {
-        return edits::refusal(errno);
-    }
-    edits::add_new(free, new_device(bitmap, l))
+    edits::decided(bind(free, bitmap, l))
 }

@@ -12,7 +12,7 @@ use Rattle.lists.specs.Tests.{by-test, contrary, and_left, and_right, or_other}
 use Rattle.lists.specs.Search.{all-at}
 use Rattle.lists.specs.Ends.{get_d_any}
 use Rattle.lists.specs.Checks.{first}
-use Rattle.rangelists.specs.declared.Reserved.{Reserved}
+use Rattle.rangelists.specs.Listed.{Reserved}
 use Rattle.rules_calls.specs.Results.{signed_result}
 use Rattle.rules_table.specs.declared.Table.{Table}
 use Rattle.rules_table.specs.Charge.{free_record}

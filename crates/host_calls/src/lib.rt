@@ -2,17 +2,16 @@
 // 117, and a refusal gives the table back as it was.
 #![tactic(auto)]
 
-ghost use Rattle.std.specs.Prelude.{List, ◌≡◌, ℕ, length};
+ghost use Rattle.std.specs.Prelude.{◌≡◌, length};
 ghost use Rattle.rules_table.specs.Layout.{table_of};
 ghost use Rattle.rules_table.specs.Words.{head_in, objects_in};
 ghost use Rattle.layout_mappings.specs.Words.{records_of};
-ghost use Rattle.check_table.specs.Known.{Known};
 ghost use Rattle.rules_calls.specs.Gate.{table_with};
 ghost use Rattle.rules_index.specs.Board.{board_host};
 ghost use Rattle.rules_calls.specs.Answers.{outcome, outcome_id};
 ghost use Rattle.rules_calls.specs.Orders.{bind_order, attach_order, detach_order, reach_order, reached_by, act_edit, host_edit};
 
-use check_table::Findings;
+use check_table::GoodTable;
 use rangelists::Reserved;
 use rules_calls::{Act, Answer, Edit, Order, Reached};
 use rules_table::Table;
@@ -20,40 +19,22 @@ use rules_table::Table;
 // ---- deciding
 
 // What an order decides over a good table, by what the check has found of it.
-fn decide_act<'a>(
-    h: &'a [u64; 865],
-    ws: &'a [[u64; 5]],
-    ix: &'a [u64],
-    pages: &'a [u64],
-    f: Findings,
-    o: Order,
-) -> Edit
-    requires { (marks : List ℕ) × Known (objects_in h.now) (records_of ws.now) ix.now pages.now marks f }
-    ensures { result ≡ act_edit (table_with (head_in h.now).limit (objects_in h.now) (records_of ws.now)) o o.act }
+fn decide_act(good: &GoodTable, o: Order) -> Edit
+    ensures { result ≡ act_edit (table_with (head_in good.now.head.now).limit (objects_in good.now.head.now) (records_of good.now.records.now)) o o.act }
 {
-    let act = o.act;
-    let first = layout_objects::object_of(h, o.first);
-    match act {
-        Act::Bind => {
-            let free = f.object;
-            let l = o.reserved;
-            host_bind::decide_bind(free, o.bitmap, l)
-        }
+    let ms = good.mappings();
+    let first = layout_objects::object_of(good.head, o.first);
+    match o.act {
+        Act::Bind => host_bind::decide_bind(good.found.object, o.bitmap, o.reserved),
         Act::Attach => {
-            let device = layout_objects::object_of(h, o.second);
-            let page = check_mappings::page_of(pages, o.first);
-            let a = ranges::higher(page, 1);
-            host_attach::decide_attach(device, first, a, ws, ix, f.listed, o.second, o.first)
+            let device = layout_objects::object_of(good.head, o.second);
+            let a = good.page_of(o.first).max(1);
+            host_attach::decide_attach(device, first, a, &ms, o.second, o.first)
         }
         Act::Detach => host_detach::decide_detach(first, o.first),
-        Act::Reach(write) => {
-            host_reach::reach_of(first, ws, ix, f.listed, o.address, o.length, write)
-        }
-        Act::Charge => {
-            let p = f.mappings;
-            edits::tell(p.charge)
-        }
-        Act::Next => host_reach::next_of(first, ws, ix, f.listed, o.first, o.address),
+        Act::Reach(write) => host_reach::reach_of(first, &ms, o.address, o.length, write),
+        Act::Charge => edits::tell(good.found.mappings.charge),
+        Act::Next => host_reach::next_of(first, &ms, o.first, o.address),
     }
 }
 
@@ -64,11 +45,18 @@ pub fn decide_host<'a>(h: &'a [u64; 865], ws: &'a [[u64; 5]], ix: &'a [u64], o: 
 {
     let mut pages: [u64; 33] = [0; 33];
     let mut marks: [u8; 129] = [0; 129];
-    let f = check_table::check(h, ws, ix, &mut pages, &mut marks);
-    if !f.good {
+    let Some(found) = check_table::check(h, ws, ix, &mut pages, &mut marks) else {
         return edits::refusal(117);
-    }
-    decide_act(h, ws, ix, &pages, f, o)
+    };
+    let good = GoodTable {
+        head: h,
+        records: ws,
+        index: ix,
+        pages: &pages,
+        marks: &marks,
+        found,
+    };
+    decide_act(&good, o)
 }
 
 // ---- by value: the index is worked out from the records

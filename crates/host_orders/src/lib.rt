@@ -11,17 +11,12 @@ use rules_calls::{Act, Order};
 fn plain_order(act: Act, first: u32, second: u32) -> Order
     ensures { result ≡ order_for act first second }
 {
-    let reserved = Reserved {
-        count: 0,
-        starts: [0; 4],
-        lasts: [0; 4],
-    };
     Order {
         act,
         first,
         second,
         bitmap: 0,
-        reserved,
+        reserved: Reserved::empty(),
         address: 0,
         length: 0,
     }
@@ -31,13 +26,9 @@ pub fn bind_order(bitmap: u64, reserved: Reserved) -> Order
     ensures { result ≡ bind_order bitmap reserved }
 {
     Order {
-        act: Act::Bind,
-        first: 0,
-        second: 0,
         bitmap,
         reserved,
-        address: 0,
-        length: 0,
+        ..plain_order(Act::Bind, 0, 0)
     }
 }
 
@@ -56,19 +47,10 @@ pub fn detach_order(device: u32) -> Order
 pub fn reach_order(device: u32, address: u64, length: u64, write: bool) -> Order
     ensures { result ≡ reach_order device address length write }
 {
-    let reserved = Reserved {
-        count: 0,
-        starts: [0; 4],
-        lasts: [0; 4],
-    };
     Order {
-        act: Act::Reach(write),
-        first: device,
-        second: 0,
-        bitmap: 0,
-        reserved,
         address,
         length,
+        ..plain_order(Act::Reach(write), device, 0)
     }
 }
 
@@ -81,18 +63,8 @@ pub fn charge_order() -> Order
 pub fn next_order(space: u32, address: u64) -> Order
     ensures { result ≡ next_order space address }
 {
-    let reserved = Reserved {
-        count: 0,
-        starts: [0; 4],
-        lasts: [0; 4],
-    };
     Order {
-        act: Act::Next,
-        first: space,
-        second: 0,
-        bitmap: 0,
-        reserved,
         address,
-        length: 0,
+        ..plain_order(Act::Next, space, 0)
     }
 }

@@ -15,12 +15,12 @@ use Rattle.ranges.specs.Ranges.{U64MAX, inside, inside-from, inside-upto, span, 
 use Rattle.rules_table.specs.declared.Kind.{Kind}
 use Rattle.rules_table.specs.declared.Object.{Object}
 use Rattle.rules_table.specs.declared.Mapping.{Mapping}
-use Rattle.rules_table.specs.Records.{object_at, space_at, is_space, is_attached, home_of, of_space, extent, used, can_write, can_read}
+use Rattle.rules_table.specs.Records.{object_at, space_at, is_space, is_attached, home_of, of_space, extent, used}
 use Rattle.table.specs.Checked.{record_ok}
 use Rattle.table.specs.Facts.{record_used, record_free}
 use Rattle.rules_calls.specs.declared.Edit.{Edit}
 use Rattle.rules_calls.specs.Edits.{refuse, tells, settle}
-use Rattle.rules_calls.specs.Reach.{around, may_do, reach_checks, reach_of}
+use Rattle.rules_calls.specs.Reach.{around, reach_checks, reach_of}
 use Rattle.rules_calls.specs.Next.{next_number, next_checks, next_edit}
 use Rattle.host_reach.specs.Held.{reach_in, reach_split}
 
@@ -56,18 +56,6 @@ module _ (os : List Object) (ms : List Mapping) (s a n : ℕ) (f : Option Mappin
       (place.0, omega (arith, place, last))
 
 -- ---- the answer
-
-pub may_write : (m : Mapping) (w b : Bool) → w ≡ true → b ≡ can_write m → b ≡ may_do w m
-may_write m w b e f = rw e f
-
-pub may_read : (m : Mapping) (w b : Bool) → w ≡ false → b ≡ can_read m → b ≡ may_do w m
-may_read m w b e f = rw e f
-
-pub in_refused : (a : ℕ) (write : Bool) (m : Mapping) (b : Bool) → b ≡ may_do write m → b ≡ false → refuse 1 ≡ reach_in a write (Some m)
-in_refused a write m b e f = rw (sym e ∙ f)
-
-pub in_taken : (a : ℕ) (write : Bool) (m : Mapping) (b : Bool) → b ≡ may_do write m → b ≡ true → tells (m.memory + (a - m.address)) ≡ reach_in a write (Some m)
-in_taken a write m b e f = rw (sym e ∙ f)
 
 module _ (os : List Object) (ms : List Mapping) (d a n : ℕ) (write : Bool) (o : Object) (p : o ≡ object_at os d) (x : ℕ) (q : x ≡ first (reach_checks o.kind a n) 0) where
   -- by the errno

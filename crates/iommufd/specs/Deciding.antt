@@ -1,9 +1,6 @@
 -- What a command decides on any table, as an edit: document 01's rules up to the point where the table changes.
-use Rattle.std.specs.Prelude.{ℕ, ◌≡◌, List, Ok, Err}
+use Rattle.std.specs.Prelude.{ℕ, ◌≡◌, List}
 use Rattle.rules_calls.specs.declared.Command.{Command}
-use Rattle.rules_calls.specs.declared.Command.TheVariants.{Destroy}
-use Rattle.rules_calls.specs.Opening.{Opening}
-use Rattle.rules_calls.specs.declared.Unopened.TheVariants.{UnknownRequest, NoSizeField, SizeTooSmall, SizePastBytes, TailNotZero}
 use Rattle.rules_table.specs.declared.Table.{Table}
 use Rattle.rules_calls.specs.declared.Edit.{Edit}
 use Rattle.rules_calls.specs.Call.{command_edit, command_done, call_done, call_edit}

@@ -8,7 +8,6 @@ ghost use Rattle.rules_table.specs.Words.{head_in, objects_in};
 ghost use Rattle.rules_calls.specs.Requests.{request_of};
 ghost use Rattle.rules_calls.specs.Objects.{destroy_edit};
 ghost use Rattle.layout_mappings.specs.Words.{records_of};
-ghost use Rattle.check_table.specs.Known.{Known};
 ghost use Rattle.rules_table.specs.Good.{good};
 ghost use Rattle.rules_calls.specs.Answers.{outcome, outcome_id, fresh_answer};
 ghost use Rattle.rules_calls.specs.Gate.{table_with};
@@ -16,7 +15,7 @@ ghost use Rattle.rules_calls.specs.Orders.{bind_order, attach_order, detach_orde
 ghost use Rattle.rules_calls.specs.Call.{call_done};
 ghost use Rattle.iommufd.specs.Deciding.{Left, Decided};
 
-use check_table::Findings;
+use check_table::GoodTable;
 use rangelists::Reserved;
 use rules_calls::{Answer, Command, Edit, Reached};
 use rules_table::Table;
@@ -40,8 +39,7 @@ pub fn is_good(t: Table) -> bool
     index_make::make(&ws, &mut ix);
     let mut pages: [u64; 33] = [0; 33];
     let mut marks: [u8; 129] = [0; 129];
-    let f = check_table::check(&h, &ws, &ix, &mut pages, &mut marks);
-    f.good
+    check_table::check(&h, &ws, &ix, &mut pages, &mut marks).is_some()
 }
 
 // ---- the commands
@@ -55,44 +53,31 @@ fn destroy(h: &[u64; 865], id: u32) -> Edit
 }
 
 // What a command that is open decides over a good table, by what the check has found of it. The reply is written.
-fn decide_command<'a>(
-    h: &'a [u64; 865],
-    ws: &'a [[u64; 5]],
-    ix: &'a [u64],
-    pages: &'a [u64],
-    marks: &'a [u8],
-    f: Findings,
-    c: Command,
-    cmd: &mut [u8],
-    area: &mut [u8],
-) -> Edit
-    requires { ((request_of c).size ≤ length cmd.old) × Known (objects_in h.now) (records_of ws.now) ix.now pages.now marks.now f }
-    ensures { Left c (table_with (head_in h.now).limit (objects_in h.now) (records_of ws.now)) cmd.old area.old result cmd.new area.new }
+fn decide_command(good: &GoodTable, c: Command, cmd: &mut [u8], area: &mut [u8]) -> Edit
+    requires { (request_of c).size ≤ length cmd.old }
+    ensures { Left c (table_with (head_in good.now.head.now).limit (objects_in good.now.head.now) (records_of good.now.records.now)) cmd.old area.old result cmd.new area.new }
 {
-    let p = f.mappings;
+    let ms = good.mappings();
     match c {
-        Command::Destroy => destroy(h, wire::read32(cmd, 4)),
-        Command::IoasAlloc => {
-            let free = f.object;
-            cmd_space_bytes::alloc(free, cmd)
-        }
-        Command::AllowIovas => cmd_space_bytes::allow(h, cmd, area),
+        Command::Destroy => destroy(good.head, wire::read32(cmd, 4)),
+        Command::IoasAlloc => cmd_space_bytes::alloc(good.found.object, cmd),
+        Command::AllowIovas => cmd_space_bytes::allow(good.head, cmd, area),
         Command::Copy => {
-            let a = check_mappings::page_of(pages, wire::read32(cmd, 8));
-            let b = check_mappings::page_of(pages, wire::read32(cmd, 12));
-            cmd_map_bytes::copy(h, ws, ix, f.listed, a, b, cmd)
+            let a = good.page_of(wire::read32(cmd, 8));
+            let b = good.page_of(wire::read32(cmd, 12));
+            cmd_map_bytes::copy(good.head, &ms, a, b, cmd)
         }
         Command::IovaRanges => {
-            let a = check_mappings::page_of(pages, wire::read32(cmd, 4));
-            cmd_space_bytes::ranges(h, a, cmd, area)
+            let a = good.page_of(wire::read32(cmd, 4));
+            cmd_space_bytes::ranges(good.head, a, cmd, area)
         }
         Command::Map => {
-            let page = check_mappings::page_of(pages, wire::read32(cmd, 8));
-            cmd_map_bytes::map(h, ws, ix, f.listed, p, marks, page, cmd)
+            let page = good.page_of(wire::read32(cmd, 8));
+            cmd_map_bytes::map(good.head, &ms, good.found.mappings, good.marks, page, cmd)
         }
         Command::Unmap => {
-            let a = check_mappings::page_of(pages, wire::read32(cmd, 4));
-            cmd_map_bytes::unmap(a != 0, ws, ix, f.listed, cmd)
+            let a = good.page_of(wire::read32(cmd, 4));
+            cmd_map_bytes::unmap(a != 0, &ms, cmd)
         }
     }
 }
@@ -111,15 +96,21 @@ pub fn decide<'a>(
 {
     let mut pages: [u64; 33] = [0; 33];
     let mut marks: [u8; 129] = [0; 129];
-    let f = check_table::check(h, ws, ix, &mut pages, &mut marks);
-    if !f.good {
+    let Some(found) = check_table::check(h, ws, ix, &mut pages, &mut marks) else {
         return edits::refusal(117);
-    }
-    let c = match opening::open(request, cmd) {
-        Ok(c) => c,
-        Err(why) => return edits::refusal(opening::unopened_errno(why)),
     };
-    decide_command(h, ws, ix, &pages, &marks, f, c, cmd, area)
+    let good = GoodTable {
+        head: h,
+        records: ws,
+        index: ix,
+        pages: &pages,
+        marks: &marks,
+        found,
+    };
+    match opening::open(request, cmd) {
+        Err(why) => edits::refusal(opening::unopened_errno(why)),
+        Ok(c) => decide_command(&good, c, cmd, area),
+    }
 }
 
 // A driver's command: its request number, its bytes and the range area, which are changed in place. The result is 0 or the negative of an errno. A refusal changes
@@ -127,10 +118,8 @@ pub fn decide<'a>(
 pub fn call(t: Table, request: u32, cmd: &mut [u8], area: &mut [u8]) -> Answer
     ensures { (result ≡ (call_done t request cmd.old area.old).answer) × (cmd.new ≡ (call_done t request cmd.old area.old).bytes) × (area.new ≡ (call_done t request cmd.old area.old).area) }
 {
-    let os = t.objects;
-    let h = layout_objects::head_of(t.limit, os);
-    let ms = t.mappings;
-    let ws = layout_mappings::words_of(ms);
+    let h = layout_objects::head_of(t.limit, t.objects);
+    let ws = layout_mappings::words_of(t.mappings);
     let mut ix: [u64; 128] = [0; 128];
     index_make::make(&ws, &mut ix);
     let e = decide(&h, &ws, &ix, request, cmd, area);

@@ -1,7 +1,7 @@
 -- Several windows: the lowest place in any of them is the lowest of the lowest places of each.
 use Rattle.std.specs.Prelude.{Option, None, Some}
 use Prim.Native.Nat.{ℕ, ◌+◌, ◌*◌, ◌≤◌, ◌<◌, min}
-use mathlib.Core.Path.{◌≡◌, refl, sym, ap, ◌∙◌}
+use mathlib.Core.Path.{◌≡◌, refl, sym, ap, subst, ◌∙◌}
 use mathlib.Core.Bool.{true}
 use mathlib.Core.List.{List, [], ◌∷◌}
 use mathlib.Core.Logic.{⊎_elim, ◌⊎◌, inl, inr}
@@ -16,8 +16,7 @@ use Rattle.lists.specs.Sums.{count_of-length}
 use Rattle.ranges.specs.declared.Range.{Range}
 use Rattle.ranges.specs.Ranges.{U64MAX, range, inside, last_of, last_of-max, span}
 use Rattle.alignment.specs.Multiples.{Lowest, lowest-unique}
-use Rattle.rangelists.specs.Listed.{listed, allowed, length-listed, get_d_listed, zero_range}
-use Rattle.rangelists.specs.declared.Allowed.{Allowed}
+use Rattle.rangelists.specs.Listed.{Allowed, listed, allowed, length-listed, zero_range, ranges_in}
 use Rattle.placement.specs.Candidates.{permits, Candidate, place_of}
 use Rattle.placement.specs.Lowest.{place-lowest}
 use Rattle.placement.specs.Jumps.{lower_of, in_windows, windows_of}
@@ -133,40 +132,31 @@ join_start G a size low rs ws n m = record { same = λ g. refl; upto = omega ari
 module _
     (G : Type 0)
     (a size low : ℕ)
-    (rs : List Range)
-    (n m : ℕ)
-    (ss ls : List ℕ)
-    (hs : m ≤ length ss)
-    (hl : m ≤ length ls)
+    (rs ws : List Range)
+    (n : ℕ)
     (best : Option ℕ)
     (jumps i : ℕ)
-    (v : Joined G a size low rs (listed m ss ls) n m best jumps i) where
-  pub join_small : n ≤ 256 → m ≤ 8 → jumps ≤ 2048
+    (v : Joined G a size low rs ws n (length ws) best jumps i) where
+  pub join_small : n ≤ 256 → length ws ≤ 8 → jumps ≤ 2048
   join_small h k = omega (arith, v.few, mul-le-mul_right {m = i} {n = 8} n (omega (arith, v.upto)))
 
-  pub join_on : (s t : Option ℕ) (j : ℕ) → i < m → (G → s ≡ place_of a size low rs (range (get_or ss i 0) (get_or ls i 0) ∷ [])) × (j ≤ n)
-      → t ≡ lower_of best s → Joined G a size low rs (listed m ss ls) n m t (jumps + j) (i + 1)
-  join_on s t j h e f = record {
+  pub join_on : (w : Range) (s t : Option ℕ) (j : ℕ) → i < length ws → w ≡ get_or ws i zero_range → (G → s ≡ place_of a size low rs (w ∷ [])) × (j ≤ n)
+      → t ≡ lower_of best s → Joined G a size low rs ws n (length ws) t (jumps + j) (i + 1)
+  join_on w s t j h ew e f = record {
     same = λ g.
-        rw (f, e.0 g) (lower-assoc best (place_of a size low rs (range (get_or ss i 0) (get_or ls i 0) ∷ [])) (in_windows a size low rs (drop (i + 1) (listed m ss ls))) ∙ ap (lower_of best) (sym left) ∙ v.same g);
+        rw (f, e.0 g) (lower-assoc best (place_of a size low rs (w ∷ [])) (in_windows a size low rs (drop (i + 1) ws)) ∙ ap (lower_of best) (sym left) ∙ v.same g);
     upto = omega arith;
     few = omega (arith, v.few, e.1, add-mul i 1 n, one-mul n);
   }
     where
-      left : in_windows a size low rs (drop i (listed m ss ls)) ≡ lower_of (place_of a size low rs (range (get_or ss i 0) (get_or ls i 0) ∷ [])) (in_windows a size low rs (drop (i + 1) (listed m ss ls)))
+      left : in_windows a size low rs (drop i ws) ≡ lower_of (place_of a size low rs (w ∷ [])) (in_windows a size low rs (drop (i + 1) ws))
       left =
-          ap (in_windows a size low rs) (drop_turn (listed m ss ls) zero_range i (rw (length-listed m ss ls hs hl) h))
-          ∙ windows-cons a size low rs (get_or (listed m ss ls) i zero_range) (drop (i + 1) (listed m ss ls))
-          ∙ rw (get_d_listed m ss ls hs hl i h)
+          ap (in_windows a size low rs) (drop_turn ws zero_range i h)
+          ∙ windows-cons a size low rs (get_or ws i zero_range) (drop (i + 1) ws)
+          ∙ ap (λ (q : Range). lower_of (place_of a size low rs (q ∷ [])) (in_windows a size low rs (drop (i + 1) ws))) (sym ew)
 
-  pub join_end : m ≤ i → (G → best ≡ in_windows a size low rs (listed m ss ls)) × (jumps ≤ m * n)
-  join_end h = (λ g. sym (rw (done, windows-nil a size low rs) (lower-nowhere best)) ∙ v.same g, let e : i ≡ m = omega (arith, v.upto) in rw (← e) v.few)
-    where
-      all : length (listed m ss ls) ≤ i
-      all = rw (length-listed m ss ls hs hl) h
-
-      done : drop i (listed m ss ls) ≡ []
-      done = drop_of_length-le (listed m ss ls) all
+  pub join_end : length ws ≤ i → (G → best ≡ in_windows a size low rs ws) × (jumps ≤ length ws * n)
+  join_end h = (λ g. sym (rw (drop_of_length-le ws h, windows-nil a size low rs) (lower-nowhere best)) ∙ v.same g, let e : i ≡ length ws = omega (arith, v.upto) in rw (← e) v.few)
 
 -- ---- the whole
 
@@ -192,21 +182,17 @@ module _ (G : Type 0) (a size low : ℕ) (rs : List Range) (s : Option ℕ) (jum
 -- without an allow list in one window, else in each of its ranges
 module _ (G : Type 0) (a size low : ℕ) (rs : List Range) (q : Allowed) (s : Option ℕ) (jumps : ℕ) where
   pub place-open : q.count ≡ 0 → (G → s ≡ place_of a size low rs (range 0 U64MAX ∷ [])) × (jumps ≤ length rs) → Placed G a size low rs (allowed q) s jumps
-  unfolding allowed listed
+  unfolding ranges_in listed
   place-open z e = open_placed G a size low rs s jumps (allowed q) (rw z) e
 
-  module _ (n : ℕ) (hn : n ≡ min q.count 8) (qs : length q.starts ≡ 8) (ql : length q.lasts ≡ 8) where
-    allowed-is : allowed q ≡ listed n q.starts q.lasts
-    unfolding allowed
-    allowed-is = rw hn
-
-    pub each-listed : (G → s ≡ in_windows a size low rs (listed n q.starts q.lasts)) × (jumps ≤ n * length rs)
-        → (G → s ≡ in_windows a size low rs (allowed q)) × (jumps ≤ length (allowed q) * length rs)
-    each-listed e = rw (allowed-is, length-listed n q.starts q.lasts (omega arith) (omega arith)) e
+  -- the windows in use are the list
+  pub each-listed : (ws : List Range) → ws ≡ allowed q → (G → s ≡ in_windows a size low rs ws) × (jumps ≤ length ws * length rs)
+      → (G → s ≡ in_windows a size low rs (allowed q)) × (jumps ≤ length (allowed q) * length rs)
+  each-listed ws e h = let P : List Range → Type 0 = λ qs. (G → s ≡ in_windows a size low rs qs) × (jumps ≤ length qs * length rs) in subst P e h
 
   pub place-listed : length q.starts ≡ 8 → length q.lasts ≡ 8 → (q.count ≡ 0 → ⊥)
       → (G → s ≡ in_windows a size low rs (allowed q)) × (jumps ≤ length (allowed q) * length rs) → Placed G a size low rs (allowed q) s jumps
-  unfolding allowed
+  unfolding ranges_in
   place-listed qs ql z e =
       listed-placed G a size low rs s jumps (allowed q)
       (λ f. z (omega (arith, f, length-listed (min q.count 8) q.starts q.lasts (omega arith) (omega arith)))) e

@@ -17,8 +17,7 @@ use Rattle.ranges.specs.Ranges.{share}
 use Rattle.alignment.specs.Pages.{smallest_page, Power, page-power}
 use Rattle.alignment.specs.Multiples.{multiple, multiple-of, fits}
 use Rattle.alignment.specs.Highest.{multiple-lower, max_power}
-use Rattle.rangelists.specs.declared.Reserved.{Reserved}
-use Rattle.rangelists.specs.Listed.{places, listed, reserved, allowed, valid}
+use Rattle.rangelists.specs.Listed.{Reserved, places, listed, reserved, allowed, valid, ranges_in}
 use Rattle.wire.specs.Fields.{zeros}
 use Rattle.rules_table.specs.declared.Attachment.TheVariants.{Loose}
 use Rattle.rules_table.specs.declared.Kind.{Kind}
@@ -62,7 +61,7 @@ zeros-rest zero (x ∷ xs) = zeros-rest zero xs
 zeros-rest (suc n) (x ∷ xs) = zeros-rest n xs
 
 reserved-trimmed : (l : Reserved) → l.count ≤ 4 → reserved (trimmed l) ≡ reserved l
-unfolding reserved trimmed listed
+unfolding ranges_in trimmed listed
 reserved-trimmed l h = let e : min l.count 4 ≡ l.count = omega arith in rw e (places-first l.count l.starts l.lasts)
 
 bind_passed : (bitmap : ℕ) (l : Reserved) → first (bind_checks bitmap l) 0 ≡ 0 → (i : ℕ) → i < 3 → (get_or (bind_checks bitmap l) i (when false 0)).fires ≡ false

@@ -1,6 +1,6 @@
 -- No host call makes a bad table out of a good one, and a call on one space leaves the others as they were.
 use Rattle.std.specs.Prelude.{ℕ, ◌≡◌, true}
-use Rattle.rangelists.specs.declared.Reserved.{Reserved}
+use Rattle.rangelists.specs.Listed.{Reserved}
 use Rattle.rules_table.specs.declared.Table.{Table}
 use Rattle.rules_table.specs.Records.{home_of, object_at, space_at}
 use Rattle.rules_table.specs.Good.{good}

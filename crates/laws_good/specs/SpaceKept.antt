@@ -13,7 +13,7 @@ use Rattle.lists.specs.Pairs.{clashes}
 use Rattle.lists.specs.Checks.{when, first, passed}
 use Rattle.ranges.specs.declared.Range.{Range}
 use Rattle.ranges.specs.Ranges.{share}
-use Rattle.rangelists.specs.Listed.{listed, reserved, allowed, valid, overlap}
+use Rattle.rangelists.specs.Listed.{listed, reserved, allowed, valid, overlap, ranges_in}
 use Rattle.wire.specs.Fields.{field, zeros}
 use Rattle.rules_table.specs.declared.Kind.{Kind}
 use Rattle.rules_table.specs.declared.Kind.TheVariants.{Free, Space, Device}
@@ -42,7 +42,7 @@ use Rattle.edits.specs.Numbers.{allow_checks_at, allow_edit_at}
 -- ---- IOAS_ALLOC
 
 new_space-ok : (os : List Object) → object_ok os new_space ≡ true
-unfolding object_ok device_names device_valid list_valid list_clear object_zero no_device no_list reserved_rest allow_rest list_fits zeros all any valid overlap allowed listed clashes
+unfolding object_ok device_names device_valid list_valid list_clear object_zero no_device no_list reserved_rest allow_rest list_fits zeros all any valid overlap ranges_in listed clashes
 new_space-ok os = refl
 
 quiet_space : Quiet new_space

@@ -5,7 +5,7 @@ use Rattle.std.proofs.Math.ListN as ListN
 use Rattle.std.proofs.lemmas.Bool.{eqb-false}
 use Rattle.lists.specs.Tests.{by-test}
 use Rattle.lists.specs.Checks.{first}
-use Rattle.rangelists.specs.declared.Reserved.{Reserved}
+use Rattle.rangelists.specs.Listed.{Reserved}
 use Rattle.wire.specs.Fields.{field}
 use Rattle.rules_table.specs.declared.Object.{Object}
 use Rattle.rules_table.specs.declared.Table.{Table}

@@ -7,7 +7,7 @@ use Rattle.lists.specs.Tests.{contrary, only_if}
 use Rattle.lists.specs.Search.{any}
 use Rattle.lists.specs.Each.{Each-replicate}
 use Rattle.lists.specs.Sums.{sum_of, sum_of-nil, sum_of-replicate}
-use Rattle.rangelists.specs.declared.Reserved.{Reserved}
+use Rattle.rangelists.specs.Listed.{Reserved}
 use Rattle.rules_calls.specs.declared.Command.{Command}
 use Rattle.rules_calls.specs.declared.Command.TheVariants as Named
 use Rattle.rules_calls.specs.Requests.{number, lookup}

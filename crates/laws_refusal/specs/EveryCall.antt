@@ -2,7 +2,7 @@
 -- and the range area as they were.
 use Rattle.std.specs.Prelude.{ℕ, ◌≡◌, refl, List, [], negsuc}
 use Rattle.std.proofs.Common.{sym, ap, ◌∙◌}
-use Rattle.rangelists.specs.declared.Reserved.{Reserved}
+use Rattle.rangelists.specs.Listed.{Reserved}
 use Rattle.rules_table.specs.declared.Table.{Table}
 use Rattle.rules_calls.specs.declared.Answer.{Answer}
 use Rattle.rules_calls.specs.Requests.{lookup}

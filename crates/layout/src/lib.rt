@@ -3,7 +3,7 @@
 #![tactic(auto)]
 
 ghost use Rattle.std.specs.Prelude.{◌≡◌};
-ghost use Rattle.rules_table.specs.Layout.{kind_of, tag_of, decoded, encoded};
+ghost use Rattle.rules_table.specs.Layout.{kind_of, tag_of, encoded};
 ghost use Rattle.rules_table.specs.Words.{low, high};
 
 use rangelists::{Allowed, Reserved};
@@ -43,36 +43,6 @@ fn tag_of(k: Kind) -> u32
         Kind::Space => 1,
         Kind::Device(Attachment::Loose) => 2,
         Kind::Device(Attachment::Attached(_)) => 3,
-    }
-}
-
-pub fn decode(r: RawObject) -> Object
-    ensures { result ≡ decoded r }
-{
-    let RawObject {
-        kind,
-        home,
-        bitmap,
-        reserves,
-        allows,
-        starts,
-        lasts,
-        froms,
-        ends,
-    } = r;
-    Object {
-        kind: kind_of(kind, home),
-        bitmap,
-        reserved: Reserved {
-            count: reserves,
-            starts,
-            lasts,
-        },
-        allow: Allowed {
-            count: allows,
-            starts: froms,
-            lasts: ends,
-        },
     }
 }
 

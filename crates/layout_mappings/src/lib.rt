@@ -24,12 +24,29 @@ pub fn record(ws: &[[u64; 5]], i: usize) -> Mapping
     }
 }
 
-// Whether a record is in use: half a word tells.
+// The space of the record at i, 0 where it is released: half a word is read, not five.
+pub fn space_at(ws: &[[u64; 5]], i: usize) -> u32
+    requires { i < length ws.now }
+    ensures { result ≡ (record_at ws.now i).space }
+{
+    (ws[i][0] & 0xFFFF_FFFF) as u32
+}
+
+// The address of the record at i: one word is read.
+pub fn address_at(ws: &[[u64; 5]], i: usize) -> u64
+    requires { i < length ws.now }
+    ensures { result ≡ (record_at ws.now i).address }
+{
+    ws[i][2]
+}
+
+// Whether a record is in use.
+#[tactic(auto, unfolding(rules_table::specs::Records::used))]
 pub fn is_used(ws: &[[u64; 5]], i: usize) -> bool
     requires { i < length ws.now }
     ensures { result ≡ used (record_at ws.now i) }
 {
-    ws[i][0] & 0xFFFF_FFFF != 0
+    space_at(ws, i) != 0
 }
 
 // A word of two halves.

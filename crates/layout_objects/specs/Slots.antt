@@ -4,11 +4,15 @@ use Rattle.std.proofs.Common.{sym, ap, ◌∙◌, le_of_suc-le-suc, not-suc-le-z
 use Rattle.std.proofs.lemmas.List.{length-map}
 use Rattle.rules_table.specs.declared.Object.{Object}
 use Rattle.rules_table.specs.declared.Kind.TheVariants.{Free}
-use Rattle.rangelists.specs.declared.Reserved.{Reserved}
+use Rattle.rangelists.specs.Listed.{Reserved}
 use Rattle.rules_table.specs.Records.{zero_object, free_object, object_at}
 use Rattle.rules_table.specs.Layout.{decoded, kind_of}
 use Rattle.rules_table.specs.Words.{low, high, four_at, raw_at, raws_from, head_in, objects_in}
 use Rattle.table.specs.Replaced.{object_at-slot, object_at-past}
+
+-- the object in slot i
+abbrev pub object_in : List ℕ → ℕ → Object
+object_in h i = get_or (objects_in h) i zero_object
 
 raws_long : (h : List ℕ) (i n : ℕ) → length (raws_from h i n) ≡ n
 unfolding raws_from
@@ -36,12 +40,14 @@ object-words h i l = raws_at h 32 0 i l ∙ (let e : 0 + i ≡ i = omega arith i
 abbrev pub reserved_in : List ℕ → ℕ → Reserved
 reserved_in h b = record { count = low (get_or h (b + 2) 0); starts = four_at h (b + 3); lasts = four_at h (b + 7) }
 
-pub kind-words : (h : List ℕ) (i kind home : ℕ) → i < 32 → kind ≡ low (get_or h (27 * i + 1) 0) → home ≡ high (get_or h (27 * i + 1) 0)
+pub kind-words : (h : List ℕ) (i kind home : ℕ) → i < 32 → kind ≡ low (get_or h (27 * i + 1 + 0) 0) → home ≡ high (get_or h (27 * i + 1 + 0) 0)
     → kind_of kind home ≡ (get_or (objects_in h) i zero_object).kind
 unfolding decoded
-kind-words h i kind home l e f = rw (e, f) (sym (ap (λ (o : Object). o.kind) (object-words h i l)))
+kind-words h i kind home l e f =
+    let z : 27 * i + 1 + 0 ≡ 27 * i + 1 = omega arith in
+    rw (e, f, z) (sym (ap (λ (o : Object). o.kind) (object-words h i l)))
 
-pub kind-blank : (h : List ℕ) (i : ℕ) → i < 32 → get_or h (27 * i + 1) 0 ≡ 0 → Free ≡ (get_or (objects_in h) i zero_object).kind
+pub kind-blank : (h : List ℕ) (i : ℕ) → i < 32 → get_or h (27 * i + 1 + 0) 0 ≡ 0 → Free ≡ (get_or (objects_in h) i zero_object).kind
 kind-blank h i l e = kind-words h i 0 0 l (sym (ap low e)) (sym (ap high e))
 
 pub reserved-words : (h : List ℕ) (i : ℕ) → i < 32 → (get_or (objects_in h) i zero_object).reserved ≡ reserved_in h (27 * i + 1)

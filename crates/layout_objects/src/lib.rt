@@ -1,13 +1,16 @@
 // The object records of a head of 865 words, in place: one is read where it is judged or used, and one is written.
 #![tactic(auto)]
 
-ghost use Rattle.std.specs.Prelude.{◌≡◌, true, ◌+◌, ◌*◌, ◌≤◌, ◌<◌, length, get_or};
-ghost use Rattle.rules_table.specs.Records.{zero_object, object_at, free_object};
+ghost use Rattle.std.specs.Prelude.{◌≡◌, true, ◌+◌, ◌-◌, ◌*◌, ◌≤◌, ◌<◌, length, get_or, take, drop};
+ghost use Rattle.rangelists.specs.Listed.{reserved, allowed};
+ghost use Rattle.rangelists.specs.Held.{ranges_of};
+ghost use Rattle.rules_table.specs.Records.{object_at, free_object};
 ghost use Rattle.rules_table.specs.Layout.{encoded, fresh_head};
-ghost use Rattle.rules_table.specs.Words.{four_at, eight_at, raw_at, head_in, objects_in};
+ghost use Rattle.rules_table.specs.Words.{raw_at, head_in, objects_in};
+ghost use Rattle.layout_objects.specs.Slots.{object_in};
 ghost use Rattle.layout_objects.specs.Writing.{with_record, put_up_to};
 
-use rangelists::Reserved;
+use rangelists::{Allowed, Ranges, Reserved};
 use rules_table::{Kind, Object, RawObject};
 
 pub fn limit_of(h: &[u64; 865]) -> u64
@@ -16,76 +19,121 @@ pub fn limit_of(h: &[u64; 865]) -> u64
     h[0]
 }
 
-fn four_at(h: &[u64; 865], b: usize) -> [u64; 4]
-    requires { b + 4 ≤ 865 }
-    ensures { result ≡ four_at h.now b }
-{
-    std::array::from_fn(|k| h[b + k])
+// The slots of a head.
+pub const SLOTS: usize = 32;
+
+// One object of a head: its slot, one of 32.
+#[derive(Clone, Copy)]
+pub struct Slot<'a> {
+    pub head: &'a [u64; 865],
+    pub at: usize,
+    pub ghost below: { at < 32 },
 }
 
-fn eight_at(h: &[u64; 865], b: usize) -> [u64; 8]
-    requires { b + 8 ≤ 865 }
-    ensures { result ≡ eight_at h.now b }
-{
-    std::array::from_fn(|k| h[b + k])
-}
-
-// The numbers of the record whose words begin at b.
-fn raw_at(h: &[u64; 865], b: usize) -> RawObject
-    requires { b + 27 ≤ 865 }
-    ensures { result ≡ raw_at h.now b }
-{
-    let k = h[b];
-    let c = h[b + 2];
-    let starts = four_at(h, b + 3);
-    let lasts = four_at(h, b + 7);
-    let froms = eight_at(h, b + 11);
-    let ends = eight_at(h, b + 19);
-    RawObject {
-        kind: layout::low(k),
-        home: layout::high(k),
-        bitmap: h[b + 1],
-        reserves: layout::low(c),
-        allows: layout::high(c),
-        starts,
-        lasts,
-        froms,
-        ends,
+impl<'a> Slot<'a> {
+    // Word k of its record.
+    pub fn word(&self, k: usize) -> u64
+        requires { k < 27 }
+        ensures { result ≡ get_or self.now.head.now (27 * self.now.at + 1 + k) 0 }
+    {
+        self.head[27 * self.at + 1 + k]
     }
-}
 
-// The object in slot i.
-pub fn object_at(h: &[u64; 865], i: usize) -> Object
-    requires { i < 32 }
-    ensures { result ≡ get_or (objects_in h.now) i zero_object }
-{
-    layout::decode(raw_at(h, 27 * i + 1))
-}
-
-// Its kind alone. Most records are free, and a word of 0 is not taken apart.
-pub fn kind_at(h: &[u64; 865], i: usize) -> Kind
-    requires { i < 32 }
-    ensures { result ≡ (get_or (objects_in h.now) i zero_object).kind }
-{
-    let w = h[27 * i + 1];
-    if w == 0 {
-        return Kind::Free;
+    // The words of its record from one place on, before another: a part of the head.
+    pub fn words(&self, from: usize, to: usize) -> &'a [u64]
+        requires { (from ≤ to) × (to ≤ 27) }
+        ensures { (result.now ≡ take (to - from) (drop (27 * self.now.at + 1 + from) self.now.head.now)) × (length result.now ≡ to - from) }
+    {
+        let b = 27 * self.at + 1;
+        let head = self.head;
+        &head[b + from..b + to]
     }
-    layout::kind_of(layout::low(w), layout::high(w))
-}
 
-// Its reserved ranges alone.
-pub fn reserved_at(h: &[u64; 865], i: usize) -> Reserved
-    requires { i < 32 }
-    ensures { result ≡ (get_or (objects_in h.now) i zero_object).reserved }
-{
-    let b = 27 * i + 1;
-    let starts = four_at(h, b + 3);
-    let lasts = four_at(h, b + 7);
-    Reserved {
-        count: layout::low(h[b + 2]),
-        starts,
-        lasts,
+    // N words from a place of its record on, by value.
+    fn words_at<const N: usize>(&self, from: usize) -> [u64; N]
+        requires { from + N ≤ 27 }
+        ensures { result ≡ take N (drop (27 * self.now.at + 1 + from) self.now.head.now) }
+    {
+        let words = self.words(from, from + N);
+        std::array::from_fn(|k| words[k])
+    }
+
+    // Its kind alone. Most records are free, and a word of 0 is not taken apart.
+    pub fn kind(&self) -> Kind
+        ensures { result ≡ (object_in self.now.head.now self.now.at).kind }
+    {
+        let w = self.word(0);
+        if w == 0 {
+            return Kind::Free;
+        }
+        layout::kind_of(layout::low(w), layout::high(w))
+    }
+
+    // Its reserved ranges alone.
+    pub fn reserved(&self) -> Reserved
+        ensures { result ≡ (object_in self.now.head.now self.now.at).reserved }
+    {
+        Reserved {
+            count: layout::low(self.word(2)),
+            starts: self.words_at(3),
+            lasts: self.words_at(7),
+        }
+    }
+
+    // Its reserved ranges that are in use, where they lie.
+    pub fn reserved_in_use(&self) -> Ranges<'a>
+        ensures { ranges_of result ≡ reserved (object_in self.now.head.now self.now.at).reserved }
+    {
+        let n = rangelists::used(layout::low(self.word(2)), 4);
+        Ranges {
+            starts: self.words(3, 3 + n),
+            lasts: self.words(7, 7 + n),
+        }
+    }
+
+    // Its allow list alone.
+    fn allow(&self) -> Allowed
+        ensures { result ≡ (object_in self.now.head.now self.now.at).allow }
+    {
+        Allowed {
+            count: layout::high(self.word(2)),
+            starts: self.words_at(11),
+            lasts: self.words_at(19),
+        }
+    }
+
+    // The ranges of its allow list that are in use, where they lie.
+    pub fn allow_in_use(&self) -> Ranges<'a>
+        ensures { ranges_of result ≡ allowed (object_in self.now.head.now self.now.at).allow }
+    {
+        let n = rangelists::used(layout::high(self.word(2)), 8);
+        Ranges {
+            starts: self.words(11, 11 + n),
+            lasts: self.words(19, 19 + n),
+        }
+    }
+
+    // The object by value.
+    pub fn object(&self) -> Object
+        ensures { result ≡ object_in self.now.head.now self.now.at }
+    {
+        Object {
+            kind: self.kind(),
+            bitmap: self.word(1),
+            reserved: self.reserved(),
+            allow: self.allow(),
+        }
+    }
+
+    // Whether all its words are zero, so that its object is released. Their bits are joined: the loop has no branch.
+    pub fn is_released(&self) -> bool
+        ensures { result ≡ true → object_in self.now.head.now self.now.at ≡ free_object }
+    {
+        let mut bits = 0;
+        for k in 0..27 {
+            bits |= self.word(k);
+        }
+        bits == 0
     }
 }
 
@@ -94,22 +142,15 @@ pub fn object_of(h: &[u64; 865], id: u32) -> Object
     ensures { result ≡ object_at (objects_in h.now) id }
 {
     match id {
-        1..=32 => object_at(h, (id - 1) as usize),
+        1..=32 => {
+            let slot = Slot {
+                head: h,
+                at: (id - 1) as usize,
+            };
+            slot.object()
+        }
         _ => edits::free_object(),
     }
-}
-
-// Whether all words of slot i are zero, so that its object is released. Their bits are joined: the loop has no branch.
-pub fn is_released(h: &[u64; 865], i: usize) -> bool
-    requires { i < 32 }
-    ensures { result ≡ true → get_or (objects_in h.now) i zero_object ≡ free_object }
-{
-    let b = 27 * i + 1;
-    let mut bits = 0;
-    for k in 0..27 {
-        bits |= h[b + k];
-    }
-    bits == 0
 }
 
 // A word of two halves.
@@ -195,7 +236,7 @@ pub fn head_of(limit: u64, os: [Object; 32]) -> [u64; 865]
 {
     let mut h = [0; 865];
     h[0] = limit;
-    for i in 0..32 {
+    for i in 0..SLOTS {
         put(&mut h, i, os[i]);
     }
     h

@@ -71,10 +71,7 @@ fn dropped(i: usize, v: Slots) -> Records
     if 32 <= i {
         return Records::Keep;
     }
-    let all = Range {
-        start: 0,
-        last: ranges::U64MAX,
-    };
+    let all = ranges::EVERYWHERE;
     Records::Clear((i + 1) as u32, all, v.first, v.end)
 }
 

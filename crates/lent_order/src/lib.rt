@@ -26,22 +26,14 @@ pub fn order_in(kind: u32, words: &[u64]) -> Order
     requires { (10 ≤ length words.now) × (1 ≤ kind) × (kind ≤ 6) }
     ensures { order_in kind words.now ≡ Some result }
 {
-    if kind == 1 {
-        return host_orders::bind_order(words[0], reserved_in(words));
+    match kind {
+        1 => host_orders::bind_order(words[0], reserved_in(words)),
+        2 => host_orders::attach_order(layout::low(words[0]), layout::low(words[1])),
+        3 => host_orders::detach_order(layout::low(words[0])),
+        4 => host_orders::reach_order(layout::low(words[0]), words[1], words[2], words[3] != 0),
+        5 => host_orders::charge_order(),
+        _ => host_orders::next_order(layout::low(words[0]), words[1]),
     }
-    if kind == 2 {
-        return host_orders::attach_order(layout::low(words[0]), layout::low(words[1]));
-    }
-    if kind == 3 {
-        return host_orders::detach_order(layout::low(words[0]));
-    }
-    if kind == 4 {
-        return host_orders::reach_order(layout::low(words[0]), words[1], words[2], words[3] != 0);
-    }
-    if kind == 5 {
-        return host_orders::charge_order();
-    }
-    host_orders::next_order(layout::low(words[0]), words[1])
 }
 
 // What an edit tells stands in the first word.

@@ -33,24 +33,13 @@ pub fn is_changed(c: Records, k: usize, m: Mapping) -> bool
     }
 }
 
-// A record that holds nothing.
-const ZERO: Mapping = Mapping {
-    space: 0,
-    rights: 0,
-    founder: 0,
-    backing: 0,
-    address: 0,
-    length: 0,
-    memory: 0,
-};
-
 // What is written there.
 pub fn new_record(c: Records) -> Mapping
     ensures { result ≡ becomes c }
 {
     match c {
         Records::Put(_, m) => m,
-        Records::Keep | Records::Clear(..) | Records::Wipe => ZERO,
+        Records::Keep | Records::Clear(..) | Records::Wipe => table::zero_mapping(),
     }
 }
 

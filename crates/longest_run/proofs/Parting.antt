@@ -1,6 +1,6 @@
 -- The loops over slots and over records: what is left answers for the whole.
 use Rattle.std.specs.Prelude.{Option, None, Some}
-use Prim.Native.Nat.{ℕ, ◌+◌, ◌≤◌, ◌<◌, min}
+use Prim.Native.Nat.{ℕ, ◌+◌, ◌≤◌, ◌<◌}
 use mathlib.Core.Path.{◌≡◌, refl, sym, ap, ◌∙◌}
 use mathlib.Core.Bool.{Bool, true, false}
 use mathlib.Core.List.{List, [], ◌∷◌, ◌++◌}
@@ -9,8 +9,6 @@ use borrow.Author.Tests.{eq-eqb, ne_eqb}
 use Rattle.lists.specs.Search.{drop_turn}
 use Rattle.ranges.specs.declared.Range.{Range}
 use Rattle.ranges.specs.Ranges.{U64MAX, range, share, span}
-use Rattle.rangelists.specs.declared.Reserved.{Reserved}
-use Rattle.rangelists.specs.Listed.{reserved, listed}
 use Rattle.runs.specs.declared.Run.{Run}
 use Rattle.runs.specs.Runs.{better, cut_at, free_to, run_from, over, past_range}
 use Rattle.runs.specs.Longest.{onward, free-append, over-append}
@@ -77,15 +75,7 @@ module _ {A : Type 0} (g : Option Run → Range → Option Run) (f : A → List 
   unfolding over
   pass_end h = sym (ap (over g r) (each-done f xs i h)) ∙ inv
 
--- ---- one slot, one record
-
-module _ (l : Reserved) (rs : List Range) (n : ℕ) (e : reserved l ≡ rs) (f : n ≡ min l.count 4) where
-  pub slot-listed : listed n l.starts l.lasts ≡ rs
-  unfolding reserved
-  slot-listed = rw f e
-
-  pub slot-free : (upto x : ℕ) (r : Option ℕ) → r ≡ free_to upto x (listed n l.starts l.lasts) → r ≡ free_to upto x rs
-  slot-free upto x r g = g ∙ ap (free_to upto x) slot-listed
+-- ---- one record
 
 -- m is what was read of the record k
 module _ (s : ℕ) (k m : Mapping) (read : m ≡ k) where

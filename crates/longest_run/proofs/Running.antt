@@ -13,8 +13,7 @@ use Rattle.lists.specs.Search.{drop_turn}
 use Rattle.ranges.specs.declared.Range.{Range}
 use Rattle.ranges.specs.Ranges.{U64MAX, range}
 use Rattle.alignment.specs.Multiples.{multiple, round_up, lowest_multiple}
-use Rattle.rangelists.specs.declared.Allowed.{Allowed}
-use Rattle.rangelists.specs.Listed.{allowed, listed, length-listed, get_d_listed, zero_range}
+use Rattle.rangelists.specs.Listed.{Allowed, allowed, length-listed, zero_range, ranges_in}
 use Rattle.runs.specs.declared.Run.{Run}
 use Rattle.runs.specs.Runs.{run, better, free_to, run_from, over, past_range, in_window, windows, longest_of}
 use Rattle.runs.specs.Longest.{free-sound, multiple-at, over-append}
@@ -65,25 +64,20 @@ from_end a low blocked w last e =
 abbrev pub Trying : (Option Run → Range → Option Run) → List Range → Option Run → Option Run → ℕ → Type 0
 Trying g qs before r i = over g r (drop i qs) ≡ over g before qs
 
-module _ (g : Option Run → Range → Option Run) (n : ℕ) (ss ls : List ℕ) (hs : n ≤ length ss) (hl : n ≤ length ls) (before r : Option Run) (i : ℕ) (inv : Trying g (listed n ss ls) before r i) where
-  pub try_on : i < n → (q : Option Run) → q ≡ g r (range (get_or ss i 0) (get_or ls i 0)) → Trying g (listed n ss ls) before q (i + 1)
+module _ (g : Option Run → Range → Option Run) (qs : List Range) (before r : Option Run) (i : ℕ) (inv : Trying g qs before r i) where
+  pub try_on : i < length qs → (q : Option Run) → q ≡ g r (get_or qs i zero_range) → Trying g qs before q (i + 1)
   unfolding over
-  try_on h q e =
-      ap (λ (t : Option Run). over g t (drop (i + 1) (listed n ss ls))) (e ∙ ap (g r) (sym (get_d_listed n ss ls hs hl i h)))
-      ∙ sym (ap (over g r) (drop_turn (listed n ss ls) zero_range i (omega (arith, length-listed n ss ls hs hl))))
-      ∙ inv
+  try_on h q e = ap (λ (t : Option Run). over g t (drop (i + 1) qs)) e ∙ sym (ap (over g r) (drop_turn qs zero_range i h)) ∙ inv
 
-  done : n ≤ i → length (listed n ss ls) ≤ i
-  done h = omega (arith, length-listed n ss ls hs hl)
-
-  pub try_end : n ≤ i → r ≡ over g before (listed n ss ls)
+  pub try_end : length qs ≤ i → r ≡ over g before qs
   unfolding over
-  try_end h = sym (ap (over g r) (drop_of_length-le (listed n ss ls) (done h))) ∙ inv
+  try_end h = sym (ap (over g r) (drop_of_length-le qs h)) ∙ inv
 
 -- past a blocked range, of which the last address is enough
-pub past_is : (a low : ℕ) (blocked : List Range) (w : Range) (r : Option Run) (start last : ℕ) (p q : Option Run) → p ≡ run_from a low blocked w (last + 1) → q ≡ better r p → q ≡ past_range a low blocked w r (range start last)
+pub past_is : (a low : ℕ) (blocked : List Range) (w : Range) (r : Option Run) (x y : Range) (p q : Option Run) → p ≡ run_from a low blocked w (x.last + 1) → q ≡ better r p → x ≡ y
+    → q ≡ past_range a low blocked w r y
 unfolding past_range
-past_is a low blocked w r start last p q e f = f ∙ ap (better r) e
+past_is a low blocked w r x y p q e f z = f ∙ ap (better r) e ∙ ap (λ (t : Range). better r (run_from a low blocked w (t.last + 1))) z
 
 -- ---- the windows
 
@@ -117,15 +111,10 @@ unfolding windows
 some-listed [] h = absurd (omega arith)
 some-listed (q ∷ qs) h = refl
 
--- the ranges in use of an allow list
-pub list_is : (q : Allowed) (g : Option Run → Range → Option Run) (n : ℕ) → n ≡ min q.count 8 → (before r : Option Run) → r ≡ over g before (listed n q.starts q.lasts) → r ≡ over g before (allowed q)
-unfolding allowed
-list_is q g n e before r f = rw (← e) f
-
 -- the allow list of the space, or none
 module _ (os : List Object) (ms : List Mapping) (s a : ℕ) (q : Allowed) (ss : length q.starts ≡ 8) (ls : length q.lasts ≡ 8) where
   many : length (allowed q) ≡ min q.count 8
-  unfolding allowed
+  unfolding ranges_in
   many = length-listed (min q.count 8) q.starts q.lasts (omega arith) (omega arith)
 
   module _ (r : Option Run) (ea : a ≡ alignment os s) (eq : q ≡ (object_at os s).allow) where

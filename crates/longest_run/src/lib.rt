@@ -1,51 +1,43 @@
 // The longest free run of a space, over the table as it lies in memory: no list of what is blocked is made. Each start that a longest run can have is tried.
 #![tactic(auto)]
 
-ghost use Rattle.std.specs.Prelude.{◌≡◌, ◌+◌, ◌<◌, length, get_or, Option, Some, None};
+ghost use Rattle.std.specs.Prelude.{◌≡◌, ◌+◌, ◌<◌, length, Option, Some, None};
 ghost use Rattle.ranges.specs.Ranges.{U64MAX};
 ghost use Rattle.rangelists.specs.Listed.{allowed};
 ghost use Rattle.runs.specs.Runs.{free_to, run_from, over, past_range, in_window};
-ghost use Rattle.rules_table.specs.Records.{zero_object, object_at};
+ghost use Rattle.rules_table.specs.Records.{object_at};
 ghost use Rattle.rules_table.specs.Spaces.{alignment, reserved_for, reserved_of};
 ghost use Rattle.rules_table.specs.Words.{objects_in};
+ghost use Rattle.layout_objects.specs.Slots.{object_in};
 ghost use Rattle.rules_calls.specs.Landing.{blocked_in, lowest_tried};
 ghost use Rattle.rules_reasons.specs.Reasons.{longest_in};
 ghost use Rattle.layout_mappings.specs.Words.{records_of, record_at};
 ghost use Rattle.longest_run.specs.Parts.{extent_for, extents_of};
 
+use layout_objects::{SLOTS, Slot};
 use rangelists::Allowed;
 use ranges::{Range, U64MAX};
 use runs::Run;
-
-// The slots of a head.
-const SLOTS: usize = 32;
 
 // The lowest address that an automatic mapping may get.
 const LOWEST_TRIED: u64 = 0;
 
 // ---- where the free addresses from x on end
 
-// What is free up to e is free up to the answer in view of what slot i reserves in space s.
-fn free_slot(h: &[u64; 865], i: usize, s: u32, e: u64, x: u64) -> Option<u64>
-    requires { i < 32 }
-    ensures { result ≡ free_to e x (reserved_for s (get_or (objects_in h.now) i zero_object)) }
+// What is free up to e is free up to the answer in view of what an object reserves in space s.
+fn free_slot(o: &Slot, s: u32, e: u64, x: u64) -> Option<u64>
+    ensures { result ≡ free_to e x (reserved_for s (object_in o.now.head.now o.now.at)) }
 {
-    let l = reserved_ranges::reserved_for(h, i, s);
-    let n = rangelists::used(l.count, 4);
-    runs::free_to(&l.starts, &l.lasts, n, e, x)
+    runs::free_to(&reserved_ranges::reserved_for(o, s), e, x)
 }
 
 // The same for all slots.
 fn free_reserved(h: &[u64; 865], s: u32, x: u64) -> Option<u64>
     ensures { result ≡ free_to U64MAX x (reserved_of (objects_in h.now) s) }
 {
-    let mut e: u64 = U64MAX;
-    for i in 0..SLOTS {
-        let f = free_slot(h, i, s, e, x);
-        let Some(z) = f else {
-            return None;
-        };
-        e = z;
+    let mut e = U64MAX;
+    for k in 0..SLOTS {
+        e = free_slot(&Slot { head: h, at: k }, s, e, x)?;
     }
     Some(e)
 }
@@ -73,11 +65,7 @@ fn free_mapped(ws: &[[u64; 5]], s: u32, upto: u64, x: u64) -> Option<u64>
 {
     let mut e = upto;
     for i in 0..ws.len() {
-        let f = free_record(ws, i, s, e, x);
-        let Some(z) = f else {
-            return None;
-        };
-        e = z;
+        e = free_record(ws, i, s, e, x)?;
     }
     Some(e)
 }
@@ -86,11 +74,8 @@ fn free_mapped(ws: &[[u64; 5]], s: u32, upto: u64, x: u64) -> Option<u64>
 fn free_from<'a>(h: &'a [u64; 865], ws: &'a [[u64; 5]], s: u32, x: u64) -> Option<u64>
     ensures { result ≡ free_to U64MAX x (blocked_in (objects_in h.now) (records_of ws.now) s) }
 {
-    let f = free_reserved(h, s, x);
-    let Some(z) = f else {
-        return None;
-    };
-    free_mapped(ws, s, z, x)
+    let upto = free_reserved(h, s, x)?;
+    free_mapped(ws, s, upto, x)
 }
 
 // ---- the run from a start
@@ -106,17 +91,11 @@ fn run_from<'a>(
 ) -> Option<Run>
     ensures { result ≡ run_from a lowest_tried (blocked_in (objects_in h.now) (records_of ws.now) s) window u }
 {
-    let m = alignment::lowest_multiple(a, u);
-    let Some(x) = m else {
-        return None;
-    };
+    let x = alignment::lowest_multiple(a, u)?;
     if x < window.start || window.last < x {
         return None;
     }
-    let f = free_from(h, ws, s, x);
-    let Some(z) = f else {
-        return None;
-    };
+    let z = free_from(h, ws, s, x)?;
     Some(Run {
         start: x,
         more: z.min(window.last) - x,
@@ -142,25 +121,22 @@ fn run_past<'a>(
 
 // ---- the starts past what is blocked
 
-// The best of what was best before and the runs past what slot i reserves in space s.
+// The best of what was best before and the runs past what an object reserves in space s.
 fn past_slot<'a>(
-    h: &'a [u64; 865],
+    o: &Slot<'a>,
     ws: &'a [[u64; 5]],
     s: u32,
     a: u64,
     window: Range,
-    i: usize,
     before: Option<Run>,
 ) -> Option<Run>
-    requires { i < 32 }
-    ensures { result ≡ over (past_range a lowest_tried (blocked_in (objects_in h.now) (records_of ws.now) s) window) before
-        (reserved_for s (get_or (objects_in h.now) i zero_object)) }
+    ensures { result ≡ over (past_range a lowest_tried (blocked_in (objects_in o.now.head.now) (records_of ws.now) s) window) before
+        (reserved_for s (object_in o.now.head.now o.now.at)) }
 {
-    let l = reserved_ranges::reserved_for(h, i, s);
-    let n = rangelists::used(l.count, 4);
+    let l = reserved_ranges::reserved_for(o, s);
     let mut best = before;
-    for k in 0..n {
-        let past = run_past(h, ws, s, a, window, l.lasts[k]);
+    for k in 0..l.len() {
+        let past = run_past(o.head, ws, s, a, window, l.at(k).last);
         best = runs::better_of(best, past);
     }
     best
@@ -180,7 +156,7 @@ fn past_reserved<'a>(
 {
     let mut best = before;
     for i in 0..SLOTS {
-        best = past_slot(h, ws, s, a, window, i, best);
+        best = past_slot(&Slot { head: h, at: i }, ws, s, a, window, best);
     }
     best
 }
@@ -252,14 +228,10 @@ fn in_window<'a>(
 fn in_list<'a>(h: &'a [u64; 865], ws: &'a [[u64; 5]], s: u32, a: u64, allow: Allowed) -> Option<Run>
     ensures { result ≡ over (in_window a lowest_tried (blocked_in (objects_in h.now) (records_of ws.now) s)) None (allowed allow) }
 {
-    let n = rangelists::used(allow.count, 8);
+    let windows = allow.in_use();
     let mut best = None;
-    for i in 0..n {
-        let window = Range {
-            start: allow.starts[i],
-            last: allow.lasts[i],
-        };
-        best = in_window(h, ws, s, a, window, best);
+    for i in 0..windows.len() {
+        best = in_window(h, ws, s, a, windows.at(i), best);
     }
     best
 }
@@ -276,10 +248,7 @@ pub fn longest<'a>(
         → result ≡ longest_in (objects_in h.now) (records_of ws.now) s }
 {
     if allow.count == 0 {
-        let window = Range {
-            start: 0,
-            last: U64MAX,
-        };
+        let window = ranges::EVERYWHERE;
         return in_window(h, ws, s, a, window, None);
     }
     in_list(h, ws, s, a, allow)

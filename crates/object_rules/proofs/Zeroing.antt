@@ -1,18 +1,21 @@
 -- Places that are all zero: by the bits of all of them, and where none is in use.
-use Prim.Native.Nat.{ℕ, ◌+◌, ◌≤◌, ◌<◌}
+use Prim.Native.Nat.{ℕ, ◌+◌, ◌-◌, ◌*◌, ◌≤◌, ◌<◌, min}
 use mathlib.Core.Path.{◌≡◌, refl, sym, ap, ◌∙◌}
 use mathlib.Core.Bool.{Bool, true, false, ◌&&◌}
 use mathlib.Core.List.{List, ◌++◌}
 use native.Mathlib.Omega.{arith}
 use lib.Bits.{bit_or, or_add_and, and_le_l, and_le_r, or_zero_l}
 use lib.Dec.{eqb}
-use lib.ListN.{length, get_or, drop, drop_of_length-le}
+use lib.ListN.{length, get_or, take, drop, drop_of_length-le}
+use Rattle.std.proofs.Common.{take_all, length-drop}
 use borrow.Author.Tests.{eqb-true, eq-eqb}
 use Rattle.lists.specs.Tests.{same_test, and_left, and_right, and_both}
 use Rattle.lists.specs.Search.{all, drop_turn, all_cons, all_append}
 use Rattle.wire.specs.Fields.{zeros}
 use Rattle.rules_table.specs.declared.Object.{Object}
 use Rattle.rules_table.specs.Good.{reserved_rest, allow_rest, no_device, no_list}
+use Rattle.layout_objects.specs.Slots.{object_in}
+use Rattle.layout_objects.proofs.Parts.{starts_part, lasts_part, froms_part, ends_part, starts-long, lasts-long, froms-long, ends-long}
 
 -- no bit of either
 bit_or-none : (a b : ℕ) → bit_or a b ≡ 0 → (a ≡ 0) × (b ≡ 0)
@@ -61,3 +64,33 @@ pub no-list : (o : Object) (ws : List ℕ) (z : Bool) → ws ≡ o.allow.starts 
     → o.allow.count ≡ 0 → z ≡ no_list o
 unfolding no_list allow_rest
 no-list o ws z e f n = rw (f ∙ ap zeros e ∙ zeros-row o.allow.starts o.allow.lasts, n)
+
+-- the words of a head that no range uses are those of the lists
+module _ (h : List ℕ) (i : ℕ) (l : i < 32) where
+  pub starts_rest : (n : ℕ) → n ≡ min (object_in h i).reserved.count 4 → (ws : List ℕ) → ws ≡ take (7 - (3 + n)) (drop (27 * i + 1 + (3 + n)) h) → length ws ≡ 7 - (3 + n)
+      → zeros ws ≡ zeros (drop (min (object_in h i).reserved.count 4) (object_in h i).reserved.starts)
+  starts_rest n e ws f m =
+      let xs = (object_in h i).reserved.starts in
+      let a : ws ≡ drop n xs = starts_part h i l ws _ _ n f m (omega arith) (omega (arith, e)) ∙ take_all (7 - (3 + n)) (drop n xs) (omega (arith, length-drop n xs, starts-long h i l)) in
+      ap zeros a ∙ ap (λ (k : ℕ). zeros (drop k xs)) e
+
+  pub lasts_rest : (n : ℕ) → n ≡ min (object_in h i).reserved.count 4 → (ws : List ℕ) → ws ≡ take (11 - (7 + n)) (drop (27 * i + 1 + (7 + n)) h) → length ws ≡ 11 - (7 + n)
+      → zeros ws ≡ zeros (drop (min (object_in h i).reserved.count 4) (object_in h i).reserved.lasts)
+  lasts_rest n e ws f m =
+      let xs = (object_in h i).reserved.lasts in
+      let a : ws ≡ drop n xs = lasts_part h i l ws _ _ n f m (omega arith) (omega (arith, e)) ∙ take_all (11 - (7 + n)) (drop n xs) (omega (arith, length-drop n xs, lasts-long h i l)) in
+      ap zeros a ∙ ap (λ (k : ℕ). zeros (drop k xs)) e
+
+  pub froms_rest : (n : ℕ) → n ≡ min (object_in h i).allow.count 8 → (ws : List ℕ) → ws ≡ take (19 - (11 + n)) (drop (27 * i + 1 + (11 + n)) h) → length ws ≡ 19 - (11 + n)
+      → zeros ws ≡ zeros (drop (min (object_in h i).allow.count 8) (object_in h i).allow.starts)
+  froms_rest n e ws f m =
+      let xs = (object_in h i).allow.starts in
+      let a : ws ≡ drop n xs = froms_part h i l ws _ _ n f m (omega arith) (omega (arith, e)) ∙ take_all (19 - (11 + n)) (drop n xs) (omega (arith, length-drop n xs, froms-long h i l)) in
+      ap zeros a ∙ ap (λ (k : ℕ). zeros (drop k xs)) e
+
+  pub ends_rest : (n : ℕ) → n ≡ min (object_in h i).allow.count 8 → (ws : List ℕ) → ws ≡ take (27 - (19 + n)) (drop (27 * i + 1 + (19 + n)) h) → length ws ≡ 27 - (19 + n)
+      → zeros ws ≡ zeros (drop (min (object_in h i).allow.count 8) (object_in h i).allow.lasts)
+  ends_rest n e ws f m =
+      let xs = (object_in h i).allow.lasts in
+      let a : ws ≡ drop n xs = ends_part h i l ws _ _ n f m (omega arith) (omega (arith, e)) ∙ take_all (27 - (19 + n)) (drop n xs) (omega (arith, length-drop n xs, ends-long h i l)) in
+      ap zeros a ∙ ap (λ (k : ℕ). zeros (drop k xs)) e

@@ -1,221 +1,155 @@
 // One object by the rules of its kind, judged where it lies: of a head of 865 words only those are read that a rule asks for.
 #![tactic(auto)]
 
-ghost use Rattle.std.specs.Prelude.{◌≡◌, ◌++◌, ◌<◌, length, drop, get_or};
+ghost use Rattle.std.specs.Prelude.{◌≡◌};
 ghost use Rattle.wire.specs.Fields.{zeros};
 ghost use Rattle.rangelists.specs.Listed.{reserved, allowed};
-ghost use Rattle.rules_table.specs.Records.{zero_object};
-ghost use Rattle.rules_table.specs.Words.{objects_in};
 ghost use Rattle.rules_table.specs.Fits.{device_fits, list_fits};
 ghost use Rattle.rules_table.specs.Good.{lists_touch, reserved_rest, allow_rest, no_device, no_list};
+ghost use Rattle.layout_objects.specs.Slots.{object_in};
 ghost use Rattle.object_rules.specs.Judged.{home_fits, attach_fits, fits_by, place_by, named_place};
 
+use layout_objects::Slot;
 use rules_table::{Attachment, Kind};
 
-// The bitmap of the object in slot i.
-pub fn bitmap_at(h: &[u64; 865], i: usize) -> u64
-    requires { i < 32 }
-    ensures { result ≡ (get_or (objects_in h.now) i zero_object).bitmap }
+// The bitmap of an object.
+#[tactic(auto, using(layout_objects::proofs::Parts::bitmap_word))]
+pub fn bitmap(o: &Slot) -> u64
+    ensures { result ≡ (object_in o.now.head.now o.now.at).bitmap }
 {
-    let b = 27 * i + 1;
-    h[b + 1]
+    o.word(1)
 }
 
 // How many ranges it says are reserved, and how many allowed.
-fn reserves_at(h: &[u64; 865], i: usize) -> u32
-    requires { i < 32 }
-    ensures { result ≡ (get_or (objects_in h.now) i zero_object).reserved.count }
+#[tactic(auto, using(layout_objects::proofs::Parts::reserves_word))]
+fn reserves(o: &Slot) -> u32
+    ensures { result ≡ (object_in o.now.head.now o.now.at).reserved.count }
 {
-    let b = 27 * i + 1;
-    (h[b + 2] % 4294967296) as u32
+    layout::low(o.word(2))
 }
 
-fn allows_at(h: &[u64; 865], i: usize) -> u32
-    requires { i < 32 }
-    ensures { result ≡ (get_or (objects_in h.now) i zero_object).allow.count }
+#[tactic(auto, using(layout_objects::proofs::Parts::allows_word))]
+fn allows(o: &Slot) -> u32
+    ensures { result ≡ (object_in o.now.head.now o.now.at).allow.count }
 {
-    let b = 27 * i + 1;
-    (h[b + 2] / 4294967296 % 4294967296) as u32
+    layout::high(o.word(2))
 }
 
-// Its lists, each a part of the head: the starts and the lasts of what is reserved, then of what is allowed.
-fn starts_at(h: &[u64; 865], i: usize) -> &[u64]
-    requires { i < 32 }
-    ensures { (result.now ≡ (get_or (objects_in h.now) i zero_object).reserved.starts) × (length result.now ≡ 4) }
+// Whether every word is zero. Their bits are joined, so that the loop has no branch.
+#[tactic(auto, using(crate::proofs::Zeroing::bits_on, crate::proofs::Zeroing::bits_end))]
+fn are_zero(words: &[u64]) -> bool
+    ensures { result ≡ zeros words.now }
 {
-    let b = 27 * i + 1;
-    &h[b + 3..b + 7]
-}
-
-fn lasts_at(h: &[u64; 865], i: usize) -> &[u64]
-    requires { i < 32 }
-    ensures { (result.now ≡ (get_or (objects_in h.now) i zero_object).reserved.lasts) × (length result.now ≡ 4) }
-{
-    let b = 27 * i + 1;
-    &h[b + 7..b + 11]
-}
-
-fn froms_at(h: &[u64; 865], i: usize) -> &[u64]
-    requires { i < 32 }
-    ensures { (result.now ≡ (get_or (objects_in h.now) i zero_object).allow.starts) × (length result.now ≡ 8) }
-{
-    let b = 27 * i + 1;
-    &h[b + 11..b + 19]
-}
-
-fn ends_at(h: &[u64; 865], i: usize) -> &[u64]
-    requires { i < 32 }
-    ensures { (result.now ≡ (get_or (objects_in h.now) i zero_object).allow.lasts) × (length result.now ≡ 8) }
-{
-    let b = 27 * i + 1;
-    &h[b + 19..b + 27]
-}
-
-// Starts and lasts at once.
-fn reserved_at(h: &[u64; 865], i: usize) -> &[u64]
-    requires { i < 32 }
-    ensures { result.now ≡ (get_or (objects_in h.now) i zero_object).reserved.starts ++ (get_or (objects_in h.now) i zero_object).reserved.lasts }
-{
-    let b = 27 * i + 1;
-    &h[b + 3..b + 11]
-}
-
-fn allow_at(h: &[u64; 865], i: usize) -> &[u64]
-    requires { i < 32 }
-    ensures { result.now ≡ (get_or (objects_in h.now) i zero_object).allow.starts ++ (get_or (objects_in h.now) i zero_object).allow.lasts }
-{
-    let b = 27 * i + 1;
-    &h[b + 11..b + 27]
-}
-
-// Whether every place from `from` on is zero. The bits of all places are joined, so that the loop has no branch.
-fn zero_from(xs: &[u64], from: usize) -> bool
-    ensures { result ≡ zeros (drop from xs.now) }
-{
-    let mut bits: u64 = 0;
-    for i in from..xs.len() {
-        bits |= xs[i];
+    let mut bits = 0;
+    for w in words {
+        bits |= *w;
     }
     bits == 0
 }
 
+// Whether the places of its reserved ranges that are not in use are zero.
 #[tactic(auto, unfolding(rules_table::specs::Good::reserved_rest))]
-fn reserved_rest(h: &[u64; 865], i: usize) -> bool
-    requires { i < 32 }
-    ensures { result ≡ reserved_rest (get_or (objects_in h.now) i zero_object) }
+fn reserved_rest(o: &Slot) -> bool
+    ensures { result ≡ reserved_rest (object_in o.now.head.now o.now.at) }
 {
-    let n = rangelists::used(reserves_at(h, i), 4);
-    zero_from(starts_at(h, i), n) && zero_from(lasts_at(h, i), n)
+    let n = rangelists::used(reserves(o), 4);
+    are_zero(o.words(3 + n, 7)) && are_zero(o.words(7 + n, 11))
 }
 
 #[tactic(auto, unfolding(rules_table::specs::Good::allow_rest))]
-fn allow_rest(h: &[u64; 865], i: usize) -> bool
-    requires { i < 32 }
-    ensures { result ≡ allow_rest (get_or (objects_in h.now) i zero_object) }
+fn allow_rest(o: &Slot) -> bool
+    ensures { result ≡ allow_rest (object_in o.now.head.now o.now.at) }
 {
-    let n = rangelists::used(allows_at(h, i), 8);
-    zero_from(froms_at(h, i), n) && zero_from(ends_at(h, i), n)
+    let n = rangelists::used(allows(o), 8);
+    are_zero(o.words(11 + n, 19)) && are_zero(o.words(19 + n, 27))
 }
 
 // Whether what only a device has is zero: with no range in use every place is asked.
 #[tactic(auto, unfolding(rules_table::specs::Good::no_device))]
-fn no_device(h: &[u64; 865], i: usize) -> bool
-    requires { i < 32 }
-    ensures { result ≡ no_device (get_or (objects_in h.now) i zero_object) }
+fn no_device(o: &Slot) -> bool
+    ensures { result ≡ no_device (object_in o.now.head.now o.now.at) }
 {
-    bitmap_at(h, i) == 0 && reserves_at(h, i) == 0 && zero_from(reserved_at(h, i), 0)
+    bitmap(o) == 0 && reserves(o) == 0 && are_zero(o.words(3, 11))
 }
 
 // Whether what only a space has is zero.
 #[tactic(auto, unfolding(rules_table::specs::Good::no_list))]
-fn no_list(h: &[u64; 865], i: usize) -> bool
-    requires { i < 32 }
-    ensures { result ≡ no_list (get_or (objects_in h.now) i zero_object) }
+fn no_list(o: &Slot) -> bool
+    ensures { result ≡ no_list (object_in o.now.head.now o.now.at) }
 {
-    allows_at(h, i) == 0 && zero_from(allow_at(h, i), 0)
+    allows(o) == 0 && are_zero(o.words(11, 27))
 }
 
 // Whether bind takes the fields of a device.
-#[tactic(auto, using(crate::proofs::Judging::fits_device), unfolding(rangelists::specs::Listed::reserved))]
-fn device_valid(h: &[u64; 865], i: usize) -> bool
-    requires { i < 32 }
-    ensures { result ≡ device_fits (get_or (objects_in h.now) i zero_object) }
+#[tactic(auto, using(crate::proofs::Judging::fits_device))]
+fn device_valid(o: &Slot) -> bool
+    ensures { result ≡ device_fits (object_in o.now.head.now o.now.at) }
 {
-    let bitmap = bitmap_at(h, i);
-    let count = reserves_at(h, i);
-    let n = rangelists::used(count, 4);
+    let bitmap = bitmap(o);
     bitmap != 0
         && alignment::smallest_page(bitmap) <= 4096
-        && count <= 4
-        && rangelists::all_valid(starts_at(h, i), lasts_at(h, i), n)
+        && reserves(o) <= 4
+        && o.reserved_in_use().is_valid()
 }
 
 // Whether ALLOW_IOVAS takes the list of a space.
-#[tactic(auto, using(crate::proofs::Judging::fits_list), unfolding(rangelists::specs::Listed::allowed))]
-fn list_valid(h: &[u64; 865], i: usize) -> bool
-    requires { i < 32 }
-    ensures { result ≡ list_fits (get_or (objects_in h.now) i zero_object) }
+#[tactic(auto, using(crate::proofs::Judging::fits_list))]
+fn list_valid(o: &Slot) -> bool
+    ensures { result ≡ list_fits (object_in o.now.head.now o.now.at) }
 {
-    let count = allows_at(h, i);
-    let n = rangelists::used(count, 8);
-    count <= 8
-        && rangelists::all_valid(froms_at(h, i), ends_at(h, i), n)
-        && !rangelists::some_overlap(froms_at(h, i), ends_at(h, i), n)
+    let list = o.allow_in_use();
+    allows(o) <= 8 && list.is_valid() && !list.has_overlap()
 }
 
-// Whether some range that object i has reserved shares an address with some range of object j's list.
-fn lists_touch(h: &[u64; 865], i: usize, j: usize) -> bool
-    requires { (i < 32) × (j < 32) }
-    ensures { result ≡ lists_touch (reserved (get_or (objects_in h.now) i zero_object).reserved) (allowed (get_or (objects_in h.now) j zero_object).allow) }
+// Whether some range that an object has reserved shares an address with some range of another's list.
+fn lists_touch(o: &Slot, home: &Slot) -> bool
+    ensures { result ≡ lists_touch (reserved (object_in o.now.head.now o.now.at).reserved) (allowed (object_in home.now.head.now home.now.at).allow) }
 {
-    let n = rangelists::used(reserves_at(h, i), 4);
-    let m = rangelists::used(allows_at(h, j), 8);
-    table::ranges_touch(
-        starts_at(h, i),
-        lasts_at(h, i),
-        n,
-        froms_at(h, j),
-        ends_at(h, j),
-        m,
-    )
+    table::ranges_touch(&o.reserved_in_use(), &home.allow_in_use())
 }
 
-// Whether the device i may be attached to the object j.
+// Whether a device may be attached to the object `home`.
 #[tactic(auto, unfolding(crate::specs::Judged::home_fits))]
-fn home_good(h: &[u64; 865], i: usize, j: usize) -> bool
-    requires { (i < 32) × (j < 32) }
-    ensures { result ≡ home_fits (get_or (objects_in h.now) j zero_object) (get_or (objects_in h.now) i zero_object) }
+fn home_good(o: &Slot, home: &Slot) -> bool
+    ensures { result ≡ home_fits (object_in home.now.head.now home.now.at) (object_in o.now.head.now o.now.at) }
 {
-    table::is_space(layout_objects::kind_at(h, j)) && !lists_touch(h, i, j)
+    table::is_space(home.kind()) && !lists_touch(o, home)
 }
 
 // Whether it may be attached as it is: to nothing, or to one of the 32.
-fn attach_good(h: &[u64; 865], i: usize, a: Attachment) -> bool
-    requires { i < 32 }
-    ensures { result ≡ attach_fits (get_or (objects_in h.now) (place_by a) zero_object) (get_or (objects_in h.now) i zero_object) a }
+fn attach_good(o: &Slot, a: Attachment) -> bool
+    ensures { result ≡ attach_fits (object_in o.now.head.now (place_by a)) (object_in o.now.head.now o.now.at) a }
 {
     match a {
         Attachment::Loose => true,
-        Attachment::Attached(s) => 1 <= s && s <= 32 && home_good(h, i, (s - 1) as usize),
+        Attachment::Attached(s) => {
+            1 <= s
+                && s <= 32
+                && home_good(
+                    o,
+                    &Slot {
+                        head: o.head,
+                        at: (s - 1) as usize,
+                    },
+                )
+        }
     }
 }
 
 // A device, by its rules. Most devices keep the first two, and the last is asked of them alone.
-fn device_good(h: &[u64; 865], i: usize, a: Attachment) -> bool
-    requires { i < 32 }
-    ensures { result ≡ fits_by (get_or (objects_in h.now) (place_by a) zero_object) (get_or (objects_in h.now) i zero_object) (Kind.Device a) }
+fn device_good(o: &Slot, a: Attachment) -> bool
+    ensures { result ≡ fits_by (object_in o.now.head.now (place_by a)) (object_in o.now.head.now o.now.at) (Kind.Device a) }
 {
-    device_valid(h, i) && attach_good(h, i, a) && reserved_rest(h, i) && no_list(h, i)
+    device_valid(o) && attach_good(o, a) && reserved_rest(o) && no_list(o)
 }
 
-// The object in slot i by the rules of the kind k, with the object that this names.
-pub fn object_good(h: &[u64; 865], i: usize, k: Kind) -> bool
-    requires { i < 32 }
-    ensures { result ≡ fits_by (get_or (objects_in h.now) (named_place k) zero_object) (get_or (objects_in h.now) i zero_object) k }
+// An object by the rules of the kind k, with the object that this names.
+pub fn object_good(o: &Slot, k: Kind) -> bool
+    ensures { result ≡ fits_by (object_in o.now.head.now (named_place k)) (object_in o.now.head.now o.now.at) k }
 {
     match k {
-        Kind::Free => no_device(h, i) && no_list(h, i),
-        Kind::Space => list_valid(h, i) && no_device(h, i) && allow_rest(h, i),
-        Kind::Device(a) => device_good(h, i, a),
+        Kind::Free => no_device(o) && no_list(o),
+        Kind::Space => list_valid(o) && no_device(o) && allow_rest(o),
+        Kind::Device(a) => device_good(o, a),
     }
 }

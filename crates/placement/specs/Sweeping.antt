@@ -1,32 +1,31 @@
 -- Jumps, one after another: the tests of one range, a pass over all of them, and how many ranges are left behind.
-use Prim.Native.Nat.{ℕ, zero, suc, ◌+◌, ◌-◌, ◌≤◌, ◌<◌, zero-le, min}
+use Prim.Native.Nat.{ℕ, zero, suc, ◌+◌, ◌≤◌, ◌<◌, zero-le}
 use Rattle.std.proofs.Math.Path.{◌≡◌, sym, subst}
-use Rattle.std.specs.Prelude.{refl, Bool, not, ◌&&◌, ltb, eqb, length, get_or, drop, Option, None, Some}
+use Rattle.std.specs.Prelude.{refl, Bool, not, ltb, eqb, length, get_or, drop, Option, None, Some}
 use Rattle.std.proofs.Common.{ap, ◌∙◌, le_of_suc-le-suc, not-suc-le-zero, arith}
 use Rattle.std.proofs.Math.Bool.{true, false}
 use mathlib.Core.List.{List, [], ◌∷◌}
 use Rattle.std.proofs.Math.Dec.{leb}
 use borrow.Author.Tests.{leb-true, le-leb, lt-leb, le-ltb, ltb-true, ltb-false, eq-eqb, ne_eqb, not-true, not-false}
-use Rattle.lists.specs.Tests.{by-test, same_test, and_left, and_right, and_both, and_not_right, only_if, only_if-mono}
+use Rattle.lists.specs.Tests.{by-test, and_not_right, only_if, only_if-mono}
 use Rattle.lists.specs.Search.{any, any-false_at, any-on, any-end}
 use Rattle.lists.specs.Each.{Each-of}
 use Rattle.lists.specs.Sums.{sum_of, sum_of-le, count_of, count_of-length}
 use Rattle.ranges.specs.declared.Range.{Range}
-use Rattle.ranges.specs.Ranges.{U64MAX, range, share, inside, passes, passes-false, last_of, span}
-use Rattle.ranges.proofs.Spans.{last_of-fits}
+use Rattle.ranges.specs.Ranges.{U64MAX, share, passes-false, span}
 use Rattle.alignment.specs.Multiples.{multiple, round_up, Lowest, MultipleFrom, lowest_multiple, lowest-is}
-use Rattle.rangelists.specs.Listed.{listed, length-listed, get_d_listed, zero_range}
+use Rattle.rangelists.specs.Listed.{zero_range}
 use Rattle.placement.specs.Lowest.{touch_reaches, touch_ends}
-use Rattle.placement.specs.Jumps.{past_of, jumps_to, ending, Free, Onward, Never, Swept, room_at, lower_of}
+use Rattle.placement.specs.Jumps.{past_of, jumps_to, ending, Free, Onward, Never, Swept}
 
 -- ---- a number from 2^64 on has no multiple below 2^64
 
-lowest-none : (a x : ℕ) → 0x1_0000_0000_0000_0000 ≤ x → lowest_multiple a x ≡ None
+pub lowest_none : (a x : ℕ) → 0x1_0000_0000_0000_0000 ≤ x → lowest_multiple a x ≡ None
 unfolding lowest_multiple round_up
-lowest-none a x h =
+lowest_none a x h =
     rw (and_not_right (multiple a (round_up a x)) (ltb (round_up a x) 0x1_0000_0000_0000_0000) (le-ltb (round_up a x) 0x1_0000_0000_0000_0000 (omega arith)))
 
--- ---- the branches of `past`, `jumps_to`, `has_room` and `lower_spot`
+-- ---- the branches of `past` and `jumps_to`
 
 module _ (a n x : ℕ) (q r : Range) (e : r ≡ span x n) (t : Bool) (f : t ≡ share r q) where
   touched : (b : Bool) → t ≡ b → share (span x n) q ≡ b
@@ -38,7 +37,7 @@ module _ (a n x : ℕ) (q r : Range) (e : r ≡ span x n) (t : Bool) (f : t ≡ 
 
   pub past_end : not t ≡ false → q.last ≡ U64MAX → None ≡ past_of a n x q
   unfolding past_of
-  past_end g h = rw (touched true (not-false t g)) (sym (lowest-none a (q.last + 1) (omega arith)))
+  past_end g h = rw (touched true (not-false t g)) (sym (lowest_none a (q.last + 1) (omega arith)))
 
   pub past-on : (s : Option ℕ) → not t ≡ false → s ≡ lowest_multiple a (q.last + 1) → s ≡ past_of a n x q
   unfolding past_of
@@ -56,35 +55,6 @@ module _ (x y : ℕ) where
   pub jumps_most : jumps_to x y ≤ 1
   unfolding jumps_to
   jumps_most = by-test (eqb x y) (λ t. rw t (omega arith)) (λ t. rw t (omega arith))
-
--- the last of the bytes is past that of the window, or it is not
-module _ (n x : ℕ) (w : Range) where
-  fits : x + (n - 1) ≤ U64MAX → passes x n ≡ false
-  unfolding passes
-  fits h = le-ltb U64MAX (x + (n - 1)) h
-
-  pub room-over : w.last < x + (n - 1) → false ≡ room_at n x w
-  unfolding room_at inside span
-  room-over h =
-      sym (by-test (passes x n)
-      (λ e. rw e)
-      (λ e. and_not_right (not (passes x n)) (inside (span x n) w) (and_not_right (leb w.start x) (leb (last_of x n) w.last) (lt-leb (last_of x n) w.last (omega (arith, h, last_of-fits x n e))))))
-
-  pub room_within : x + (n - 1) ≤ w.last → w.last ≤ U64MAX → leb w.start x ≡ room_at n x w
-  unfolding room_at inside span
-  room_within h k =
-      let p = fits (omega (arith, h, k)) in
-      let l = le-leb (last_of x n) w.last (omega (arith, h, last_of-fits x n p)) in
-      same_test (leb w.start x) (not (passes x n) && inside (span x n) w)
-      (λ t. and_both (not (passes x n)) (inside (span x n) w) (rw p) (and_both (leb w.start x) (leb (last_of x n) w.last) t l))
-      (λ t. and_left (leb w.start x) (leb (last_of x n) w.last) (and_right (not (passes x n)) (inside (span x n) w) t))
-
-module _ (r s : Option ℕ) where
-  pub lower-first : (x : ℕ) → r ≡ Some x → s ≡ None → Some x ≡ lower_of r s
-  lower-first x e f = rw (e, f)
-
-  pub lower-both : (x y m : ℕ) → r ≡ Some x → s ≡ Some y → m ≡ min x y → Some m ≡ lower_of r s
-  lower-both x y m e f g = rw (e, f, g)
 
 -- ---- how many ranges still end at a place or above it
 
@@ -162,7 +132,7 @@ module _ (a n : ℕ) (rs : List Range) (d : Range) (i x : ℕ) (l : i < length r
         let s : lowest_multiple a ((get_or rs i d).last + 1) ≡ Some y = sym (rw t) ∙ e in
         by-test (ltb ((get_or rs i d).last + 1) 0x1_0000_0000_0000_0000)
         (λ u. subst (Lowest (MultipleFrom a ((get_or rs i d).last + 1))) s (lowest-is a ((get_or rs i d).last + 1) (ltb-true ((get_or rs i d).last + 1) 0x1_0000_0000_0000_0000 u)))
-        (λ u. let w = lowest-none a ((get_or rs i d).last + 1) (ltb-false ((get_or rs i d).last + 1) 0x1_0000_0000_0000_0000 u) in let z : ◌≡◌ {A = ℕ} 0 1 = cc in absurd (omega arith))
+        (λ u. let w = lowest_none a ((get_or rs i d).last + 1) (ltb-false ((get_or rs i d).last + 1) 0x1_0000_0000_0000_0000 u) in let z : ◌≡◌ {A = ℕ} 0 1 = cc in absurd (omega arith))
 
     past-stay : share (span x n) (get_or rs i d) ≡ false → y ≡ x
     unfolding past_of
@@ -190,50 +160,33 @@ module _ (a n : ℕ) (rs : List Range) (d : Range) (i x : ℕ) (l : i < length r
     pub past-still : y ≡ x → share (span x n) (get_or rs i d) ≡ false
     past-still s = by-test (share (span x n) (get_or rs i d)) (λ t. let h = past-above t in absurd (omega arith)) (λ t. t)
 
--- ---- a pass over the first n places of two arrays, at place i
+-- ---- a pass over a list, at place i
 
 -- from `from` to x by so many jumps. Where it has not moved, what is left of the ranges tells whether any is touched
 pub record Sweeping (a size : ℕ) (rs : List Range) (from x jumps i : ℕ) : Type 0 where
   pub onward : Onward a size rs from x jumps
   pub still : x ≡ from → any (share (span from size)) (drop i rs) ≡ any (share (span from size)) rs
 
-pub sweep_start : (a size : ℕ) (rs : List Range) (from : ℕ) → from < 0x1_0000_0000_0000_0000 → Sweeping a size rs from from 0 0
-sweep_start a size rs from h = record { onward = onward-here a size rs from h; still = λ e. refl }
+module _ (a size : ℕ) (rs : List Range) (from x jumps i : ℕ) (v : Sweeping a size rs from x jumps i) where
+  pub sweep_small : jumps ≤ length rs
+  sweep_small = omega (arith, v.onward.fewer, ending-most from rs)
 
-module _
-    (a size n : ℕ)
-    (ss ls : List ℕ)
-    (hs : n ≤ length ss)
-    (hl : n ≤ length ls)
-    (from x jumps i : ℕ)
-    (v : Sweeping a size (listed n ss ls) from x jumps i) where
-  pub sweep_small : jumps ≤ n
-  sweep_small = omega (arith, v.onward.fewer, ending-most from (listed n ss ls), length-listed n ss ls hs hl)
+  module _ (h : i < length rs) where
+    pub sweep_never : past_of a size x (get_or rs i zero_range) ≡ None → Never a size rs from jumps
+    sweep_never f = let z : jumps + 0 ≡ jumps = omega arith in rw (← z) (onward-never a size rs from x jumps 0 v.onward (past-free a size rs zero_range i x h f))
 
-  module _ (h : i < n) (s : Option ℕ) (e : s ≡ past_of a size x (range (get_or ss i 0) (get_or ls i 0))) where
-    at : (r : Option ℕ) → s ≡ r → past_of a size x (get_or (listed n ss ls) i zero_range) ≡ r
-    at r f = rw (get_d_listed n ss ls hs hl i h) (sym e ∙ f)
-
-    place : i < length (listed n ss ls)
-    place = rw (length-listed n ss ls hs hl) h
-
-    pub sweep_never : s ≡ None → Never a size (listed n ss ls) from jumps
-    sweep_never f =
-        let z : jumps + 0 ≡ jumps = omega arith in rw (← z)
-        (onward-never a size (listed n ss ls) from x jumps 0 v.onward (past-free a size (listed n ss ls) zero_range i x place (at None f)))
-
-    pub sweep_on : (y j : ℕ) → s ≡ Some y → j ≡ jumps_to x y → Sweeping a size (listed n ss ls) from y (jumps + j) (i + 1)
-    sweep_on y j f g = record {
-      onward = onward_then a size (listed n ss ls) from x y jumps j v.onward (rw g step);
+    pub sweep_on : (y : ℕ) → past_of a size x (get_or rs i zero_range) ≡ Some y → Sweeping a size rs from y (jumps + jumps_to x y) (i + 1)
+    sweep_on y f = record {
+      onward = onward_then a size rs from x y jumps (jumps_to x y) v.onward step;
       still = λ q.
           let k : y ≡ x = omega (arith, v.onward.from, step.from) in
           let m : x ≡ from = omega (arith, k, q) in
-          any-on (share (span from size)) (listed n ss ls) i (v.still m) zero_range place
-          (subst (λ (u : ℕ). share (span u size) (get_or (listed n ss ls) i zero_range) ≡ false) m (past-still a size (listed n ss ls) zero_range i x place y v.onward.below (at (Some y) f) k));
+          any-on (share (span from size)) rs i (v.still m) zero_range h
+          (subst (λ (u : ℕ). share (span u size) (get_or rs i zero_range) ≡ false) m (past-still a size rs zero_range i x h y v.onward.below f k));
     }
       where
-        step : Onward a size (listed n ss ls) x y (jumps_to x y)
-        step = past-onward a size (listed n ss ls) zero_range i x place y v.onward.below (at (Some y) f)
+        step : Onward a size rs x y (jumps_to x y)
+        step = past-onward a size rs zero_range i x h y v.onward.below f
 
-  pub sweep_end : n ≤ i → Swept a size (listed n ss ls) from (Some x) jumps
-  sweep_end h = (v.onward, λ e. sym (any-end (share (span from size)) (listed n ss ls) i (v.still e) (rw (length-listed n ss ls hs hl) h)))
+  pub sweep_end : length rs ≤ i → Swept a size rs from (Some x) jumps
+  sweep_end h = (v.onward, λ e. sym (any-end (share (span from size)) rs i (v.still e) h))

@@ -2,9 +2,10 @@
 #![tactic(auto)]
 
 ghost use Rattle.std.specs.Prelude.{◌≡◌, ◌-◌, ◌≤◌, length};
-ghost use Rattle.rangelists.specs.Listed.{listed};
+ghost use Rattle.rangelists.specs.Held.{ranges_of};
 ghost use Rattle.placement.specs.Jumps.{past_of, jumps_to, Swept, room_at, lower_of};
 
+use rangelists::Ranges;
 use ranges::Range;
 
 // What is looked for: so many bytes from a multiple of the alignment on, at low or above it.
@@ -23,6 +24,7 @@ pub struct Search {
 }
 
 // The next place from x on at which q is not touched: x itself, or the lowest multiple past q.
+#[tactic(auto, using(crate::specs::Sweeping::lowest_none), unfolding(crate::specs::Jumps::past_of))]
 pub fn past(w: Want, x: u64, q: Range) -> Option<u64>
     ensures { result ≡ past_of w.alignment w.length x q }
 {
@@ -33,6 +35,7 @@ pub fn past(w: Want, x: u64, q: Range) -> Option<u64>
 }
 
 // The jumps from x to the next place y.
+#[tactic(auto, unfolding(crate::specs::Jumps::jumps_to))]
 fn jumps_to(x: u64, y: u64) -> usize
     ensures { result ≡ jumps_to x y }
 {
@@ -40,18 +43,14 @@ fn jumps_to(x: u64, y: u64) -> usize
 }
 
 // One pass over the ranges. After a jump it goes on with the next range: those before it are seen again by the next pass.
-pub fn sweep<'a>(starts: &'a [u64], lasts: &'a [u64], n: usize, w: Want, from: u64) -> Search
-    requires { (n ≤ length starts.now) × (n ≤ length lasts.now) × (n ≤ 256) }
-    ensures { Swept w.alignment w.length (listed n starts.now lasts.now) from result.spot result.jumps }
+pub fn sweep(l: &Ranges, w: Want, from: u64) -> Search
+    requires { length (ranges_of l.now) ≤ 256 }
+    ensures { Swept w.alignment w.length (ranges_of l.now) from result.spot result.jumps }
 {
     let mut x = from;
     let mut jumps: usize = 0;
-    for i in 0..n {
-        let q = Range {
-            start: starts[i],
-            last: lasts[i],
-        };
-        let Some(y) = past(w, x, q) else {
+    for i in 0..l.len() {
+        let Some(y) = past(w, x, l.at(i)) else {
             return Search { spot: None, jumps };
         };
         jumps += jumps_to(x, y);
@@ -71,6 +70,7 @@ pub fn behind(length: u64) -> u64
 }
 
 // Whether the bytes from x on end by U64MAX and inside the window, told without their last address.
+#[tactic(auto, unfolding(crate::specs::Jumps::room_at, ranges::specs::Ranges::passes, ranges::specs::Ranges::inside, ranges::specs::Ranges::span, ranges::specs::Ranges::last_of))]
 pub fn has_room(length: u64, x: u64, window: Range) -> bool
     ensures { result ≡ room_at length x window }
 {
@@ -82,11 +82,8 @@ pub fn has_room(length: u64, x: u64, window: Range) -> bool
 pub fn lower_spot(a: Option<u64>, b: Option<u64>) -> Option<u64>
     ensures { result ≡ lower_of a b }
 {
-    let Some(x) = a else {
-        return b;
-    };
-    let Some(y) = b else {
-        return a;
+    let (Some(x), Some(y)) = (a, b) else {
+        return a.or(b);
     };
     Some(x.min(y))
 }

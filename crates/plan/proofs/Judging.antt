@@ -2,7 +2,7 @@
 use Prim.Native.Nat.{ℕ, ◌+◌, ◌≤◌, ◌<◌, min}
 use mathlib.Core.Path.{◌≡◌, refl, sym, ap, ◌∙◌}
 use mathlib.Core.Bool.{Bool, true, false, ◌&&◌}
-use Rattle.std.specs.Prelude.{Option, Some, None, is_some}
+use Rattle.std.specs.Prelude.{Some, None, is_some, Result, Ok, Err, is_ok}
 use mathlib.Core.List.{List}
 use native.Mathlib.Omega.{arith}
 use lib.ListN.{length}
@@ -42,11 +42,11 @@ module _ (bs : List ℕ) where
   unfolding whole
   is_whole h e = rw (le-leb (length bs) 65536 h, eq-eqb (plan_end bs) (length bs) e) refl
 
-  pub refused-plan : length bs ≤ 65536 → plan_end bs ≡ length bs → None ≡ set_up (plan_of bs) → None ≡ ready_of bs
+  pub refused-plan : (t : Table) → length bs ≤ 65536 → plan_end bs ≡ length bs → Err t ≡ set_up (plan_of bs) → None ≡ ready_of bs
   unfolding ready_of
-  refused-plan h e f = rw (is_whole h e, ← f) refl
+  refused-plan t h e f = rw (is_whole h e, ← f) refl
 
-  pub ready_plan : (t : Table) (x n : ℕ) → length bs ≤ 65536 → plan_end bs ≡ length bs → Some t ≡ set_up (plan_of bs) → x ≡ commands_at bs → n ≡ field 4 bs x
+  pub ready_plan : (t : Table) (x n : ℕ) → length bs ≤ 65536 → plan_end bs ≡ length bs → Ok t ≡ set_up (plan_of bs) → x ≡ commands_at bs → n ≡ field 4 bs x
       → Some (record { at = x + 4; count = n; table = t }) ≡ ready_of bs
   unfolding ready_of good_plan
   ready_plan t x n h e f ex en = rw (is_whole h e, ← f, en, ex) refl
@@ -58,15 +58,15 @@ plan-commands bs = refl
 -- ---- what a plan that is ready lets its reader do
 
 -- whether a plan is ready, by its two parts
-judged-some : (w : Bool) (bs : List ℕ) (s : Option Table) → is_some (judged w bs s) ≡ (w && is_some s)
-judged-some true bs (Some t) = refl
-judged-some true bs None = refl
+judged-some : (w : Bool) (bs : List ℕ) (s : Result Table Table) → is_some (judged w bs s) ≡ (w && is_ok s)
+judged-some true bs (Ok t) = refl
+judged-some true bs (Err t) = refl
 judged-some false bs s = refl
 
-judged-good : (w : Bool) (bs : List ℕ) (s : Option Table) (r : Ready) → Some r ≡ judged w bs s → (w ≡ true) × (s ≡ Some r.table) × (r ≡ good_plan bs r.table)
+judged-good : (w : Bool) (bs : List ℕ) (s : Result Table Table) (r : Ready) → Some r ≡ judged w bs s → (w ≡ true) × (s ≡ Ok r.table) × (r ≡ good_plan bs r.table)
 unfolding good_plan
-judged-good true bs (Some t) r e = let f : r ≡ good_plan bs t = cc in (refl, rw f refl, rw f refl)
-judged-good true bs None r e = absurd (cc)
+judged-good true bs (Ok t) r e = let f : r ≡ good_plan bs t = cc in (refl, rw f refl, rw f refl)
+judged-good true bs (Err t) r e = absurd (cc)
 judged-good false bs s r e = absurd (cc)
 
 pub ready_good : (bs : List ℕ) → is_some (ready_of bs) ≡ is_ready bs
@@ -77,14 +77,14 @@ module _ (bs : List ℕ) (r : Ready) (e : Some r ≡ ready_of bs) where
   pub ready_test : is_ready bs ≡ true
   ready_test = sym (ready_good bs) ∙ ap is_some (sym e)
 
-  parts : (whole bs ≡ true) × (set_up (plan_of bs) ≡ Some r.table) × (r ≡ good_plan bs r.table)
+  parts : (whole bs ≡ true) × (set_up (plan_of bs) ≡ Ok r.table) × (r ≡ good_plan bs r.table)
   unfolding ready_of
   parts = judged-good (whole bs) bs (set_up (plan_of bs)) r e
 
   ready_whole : whole bs ≡ true
   ready_whole = parts.0
 
-  pub ready_set : set_up (plan_of bs) ≡ Some r.table
+  pub ready_set : set_up (plan_of bs) ≡ Ok r.table
   ready_set = parts.1
 
   pub ready_is : r ≡ good_plan bs r.table

@@ -1,4 +1,4 @@
--- The lines of a plan's commands, one after the other, and a list that is filled with a number of each.
+-- The lines of a plan's commands, one after the other, and a list that is filled with them.
 use Prim.Native.Nat.{ℕ, zero, suc, ◌+◌, ◌-◌, ◌*◌, ◌≤◌, ◌<◌}
 use mathlib.Core.Path.{◌≡◌, refl, sym, ap, ◌∙◌}
 use mathlib.Core.Bool.{Bool, true, false}
@@ -7,16 +7,16 @@ use mathlib.Core.List.{List, [], ◌∷◌, ◌++◌, map, append_assoc, append-
 use native.Mathlib.Nat.{le_of_suc-le-suc, not-suc-le-zero}
 use native.Mathlib.Numerals.{add-one}
 use native.Mathlib.Omega.{arith}
-use lib.IntN.{ℤ}
 use lib.ListN.{length, take, set}
 use Rattle.wire.specs.Fields.{field}
 use Rattle.rules_table.specs.declared.Table.{Table}
 use Rattle.plan_shape.specs.declared.Section.TheVariants.{Commands}
 use Rattle.plan.specs.declared.Ready.{Ready}
+use Rattle.plan_commands.specs.declared.Line as Kept
 use Rattle.plan_commands.specs.declared.Ran.{Ran}
 use Rattle.plan_shape.specs.Plan.{commands_at, command_end, item_end, items_end, order_at, orders, plan_of}
 use Rattle.plan_commands.specs.Ran.{answer_to, ran_by, ran_at}
-use Rattle.plan.specs.Running.{Line, request_of, result_of, charge_of, line_by, lines_from, lines_of, is_ready, ready_of, good_plan, shown}
+use Rattle.plan.specs.Running.{Line, kept_of, line_by, lines_from, lines_of, is_ready, ready_of, good_plan, shown}
 use Rattle.plan_shape.specs.Ends.{item_from, items_turn}
 use Rattle.plan.proofs.Judging.{ready_good, ready_test, ready_set, ready_is, ready_length, ready_room}
 
@@ -31,7 +31,7 @@ items_after left m bs at t r room h f e = rw (f, e) (omega (arith, room, items_t
 -- ---- the next line
 
 abbrev pub line_of : ℕ → Ran → Line
-line_of k r = record { number = k; request = r.request; result = r.result; charge = r.charge }
+line_of k r = record { number = k; request = r.line.request; result = r.line.result; charge = r.line.charge }
 
 pub lines-turn : (left : ℕ) (bs : List ℕ) (at k : ℕ) (t : Table) (r : Ran) → 0 < left → r ≡ ran_at t bs at
     → lines_from k t (orders left bs at) ≡ line_of k r ∷ lines_from (k + 1) r.table (orders (left - 1) bs r.next)
@@ -53,31 +53,24 @@ take_stored [] k x h = absurd (not-suc-le-zero h)
 take_stored (y ∷ ys) zero x h = refl
 take_stored (y ∷ ys) (suc k) x h = ap (λ r. y ∷ r) (take_stored ys k x (le_of_suc-le-suc h))
 
-pub filled_none : {A : Type 0} (f : Line → A) (m n : ℕ) (bs : List ℕ) (at : ℕ) (t : Table) → m ≡ n → map f (lines_from 0 t (orders m bs at)) ≡ map f (lines_from 0 t (orders n bs at))
-filled_none f m n bs at t e = rw e refl
+pub filled_none : (m n : ℕ) (bs : List ℕ) (at : ℕ) (t : Table) → m ≡ n → map kept_of (lines_from 0 t (orders m bs at)) ≡ map kept_of (lines_from 0 t (orders n bs at))
+filled_none m n bs at t e = rw e refl
 
-module _ {A : Type 0} (f : Line → A) (left : ℕ) (bs : List ℕ) (at k : ℕ) (t : Table) (xs : List A) {r : List A} (v : take k xs ++ map f (lines_from k t (orders left bs at)) ≡ r) where
+module _ (left : ℕ) (bs : List ℕ) (at k : ℕ) (t : Table) (xs : List Kept.Line) {r : List Kept.Line} (v : take k xs ++ map kept_of (lines_from k t (orders left bs at)) ≡ r) where
   pub filled_on : (s : Ran) (m : ℕ) → 0 < left → m ≡ left - 1 → s ≡ ran_at t bs at → k < length xs
-      → take (k + 1) (set xs k (f (line_of k s))) ++ map f (lines_from (k + 1) s.table (orders m bs s.next)) ≡ r
+      → take (k + 1) (set xs k s.line) ++ map kept_of (lines_from (k + 1) s.table (orders m bs s.next)) ≡ r
   filled_on s m h i e l =
-      ap (λ (n : ℕ). take (k + 1) (set xs k (f (line_of k s))) ++ map f (lines_from (k + 1) s.table (orders n bs s.next))) i
-      ∙ ap (λ (n : ℕ). take n (set xs k (f (line_of k s))) ++ map f (lines_from (k + 1) s.table (orders (left - 1) bs s.next))) (add-one k)
-      ∙ ap (λ (ys : List A). ys ++ map f (lines_from (k + 1) s.table (orders (left - 1) bs s.next))) (take_stored xs k (f (line_of k s)) l)
-      ∙ append_assoc (take k xs) (f (line_of k s) ∷ []) (map f (lines_from (k + 1) s.table (orders (left - 1) bs s.next)))
-      ∙ ap (λ (ls : List Line). take k xs ++ map f ls) (sym (lines-turn left bs at k t s h e))
+      ap (λ (n : ℕ). take (k + 1) (set xs k s.line) ++ map kept_of (lines_from (k + 1) s.table (orders n bs s.next))) i
+      ∙ ap (λ (n : ℕ). take n (set xs k s.line) ++ map kept_of (lines_from (k + 1) s.table (orders (left - 1) bs s.next))) (add-one k)
+      ∙ ap (λ (ys : List Kept.Line). ys ++ map kept_of (lines_from (k + 1) s.table (orders (left - 1) bs s.next))) (take_stored xs k s.line l)
+      ∙ append_assoc (take k xs) (s.line ∷ []) (map kept_of (lines_from (k + 1) s.table (orders (left - 1) bs s.next)))
+      ∙ ap (λ (ls : List Line). take k xs ++ map kept_of ls) (sym (lines-turn left bs at k t s h e))
       ∙ v
 
   pub filled_all : (n : ℕ) → left ≤ 0 → k + left ≡ n → take n xs ≡ r
   filled_all n h e =
       let g : n ≡ k = omega (arith, h, e) in
-      ap (λ (m : ℕ). take m xs) g ∙ sym (append-nil (take k xs)) ∙ ap (λ (ls : List Line). take k xs ++ map f ls) (sym (lines_none left bs at k t h)) ∙ v
-
--- a signed number comes back from its bits
-pub signed_on : (left : ℕ) (bs : List ℕ) (at k : ℕ) (t : Table) (xs : List ℤ) {r : List ℤ} → take k xs ++ map result_of (lines_from k t (orders left bs at)) ≡ r → (s : Ran) (m : ℕ) → 0 < left → m ≡ left - 1 → s ≡ ran_at t bs at → k < length xs
-    → (z : ℤ) → z ≡ s.result
-    → take (k + 1) (set xs k z) ++ map result_of (lines_from (k + 1) s.table (orders m bs s.next)) ≡ r
-signed_on left bs at k t xs v s m h i e l z y =
-    ap (λ (x : ℤ). take (k + 1) (set xs k x) ++ map result_of (lines_from (k + 1) s.table (orders m bs s.next))) y ∙ filled_on result_of left bs at k t xs v s m h i e l
+      ap (λ (m : ℕ). take m xs) g ∙ sym (append-nil (take k xs)) ∙ ap (λ (ls : List Line). take k xs ++ map kept_of ls) (sym (lines_none left bs at k t h)) ∙ v
 
 -- ---- the whole plan
 
@@ -96,16 +89,15 @@ bad-shown : (bs : List ℕ) → is_ready bs ≡ false → shown bs ≡ []
 unfolding shown
 bad-shown bs h = rw h refl
 
--- what a run answers: whether the plan is good, how many lines it has, and the numbers of the lines
-abbrev pub Answers : List ℕ → Bool → ℕ → List ℕ → List ℤ → List ℕ → Type 0
-Answers bs good count requests results charges =
-    (good ≡ is_ready bs) × (count ≡ length (shown bs)) × (take count requests ≡ map request_of (shown bs)) × (take count results ≡ map result_of (shown bs)) × (take count charges ≡ map charge_of (shown bs))
+-- what a run answers: whether the plan is good, how many lines it has, and the lines
+abbrev pub Answers : List ℕ → Bool → ℕ → List Kept.Line → Type 0
+Answers bs good count lines = (good ≡ is_ready bs) × (count ≡ length (shown bs)) × (take count lines ≡ map kept_of (shown bs))
 
-pub bad-answers : (bs : List ℕ) → None ≡ ready_of bs → (requests : List ℕ) (results : List ℤ) (charges : List ℕ) → Answers bs false 0 requests results charges
-bad-answers bs e requests results charges =
+pub bad-answers : (bs : List ℕ) → None ≡ ready_of bs → (lines : List Kept.Line) → Answers bs false 0 lines
+bad-answers bs e lines =
     let h : is_ready bs ≡ false = sym (ready_good bs) ∙ ap is_some (sym e) in
     let n : shown bs ≡ [] = bad-shown bs h in
-    (sym h, sym (ap length n), sym (ap (map request_of) n), sym (ap (map result_of) n), sym (ap (map charge_of) n))
+    (sym h, sym (ap length n), sym (ap (map kept_of) n))
 
 module _ (bs : List ℕ) (r : Ready) (e : Some r ≡ ready_of bs) where
   good-shown : lines_from 0 r.table (orders r.count bs r.at) ≡ shown bs
@@ -118,9 +110,5 @@ module _ (bs : List ℕ) (r : Ready) (e : Some r ≡ ready_of bs) where
   pub good-fits : r.count ≤ 8192
   good-fits = omega (arith, items_count bs r.count r.at, ready_room bs r e, ready_length bs r e)
 
-  pub good-answers : (requests : List ℕ) (results : List ℤ) (charges : List ℕ)
-      → take r.count requests ≡ map request_of (lines_from 0 r.table (orders r.count bs r.at))
-      → take r.count results ≡ map result_of (lines_from 0 r.table (orders r.count bs r.at))
-      → take r.count charges ≡ map charge_of (lines_from 0 r.table (orders r.count bs r.at)) → Answers bs true r.count requests results charges
-  good-answers requests results charges a b c =
-      (sym (ready_test bs r e), sym (lines-count r.count bs r.at 0 r.table) ∙ ap length good-shown, a ∙ ap (map request_of) good-shown, b ∙ ap (map result_of) good-shown, c ∙ ap (map charge_of) good-shown)
+  pub good-answers : (lines : List Kept.Line) → take r.count lines ≡ map kept_of (lines_from 0 r.table (orders r.count bs r.at)) → Answers bs true r.count lines
+  good-answers lines a = (sym (ready_test bs r e), sym (lines-count r.count bs r.at 0 r.table) ∙ ap length good-shown, a ∙ ap (map kept_of) good-shown)

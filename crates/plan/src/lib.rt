@@ -1,7 +1,7 @@
 // The bench program's plan: its bytes judged, its setup done, its commands run one by one. What a plan's bytes mean stands in plan_shape/specs/Plan.antt.
 #![tactic(auto)]
 
-ghost use Rattle.std.specs.Prelude.{◌≡◌, nat_abs};
+ghost use Rattle.std.specs.Prelude.{◌≡◌};
 ghost use Rattle.plan.specs.Running.{ready_of};
 
 use plan_shape::Section;
@@ -32,17 +32,12 @@ pub fn judge(s: &[u8]) -> Option<Ready>
     if end != s.len() {
         return None;
     }
-    let table = plan_setup::set_up(s)?;
+    let Ok(table) = plan_setup::set_up(s) else {
+        return None;
+    };
     Some(Ready {
         at: commands + 4,
         count: wire::read32(s, commands),
         table,
     })
-}
-
-// The size of a signed number, of which the digits are printed behind its sign.
-pub fn size_of(r: i32) -> u64
-    ensures { result ≡ nat_abs r }
-{
-    u64::from(r.unsigned_abs())
 }

@@ -23,7 +23,7 @@ called t n bytes ranges cmd area a e f g = g ∙ rw (e, f) refl
 
 -- the numbers of a command, the answer to it, and the charge after it
 ran_cong : (q p g h x y : ℕ) (z w : ℤ) (t u : Table) → q ≡ p → z ≡ w → g ≡ h → x ≡ y → t ≡ u
-    → ◌≡◌ {A = Ran} record { request = q; result = z; charge = g; next = x; table = t } record { request = p; result = w; charge = h; next = y; table = u }
+    → ◌≡◌ {A = Ran} record { line = record { request = q; result = z; charge = g }; next = x; table = t } record { line = record { request = p; result = w; charge = h }; next = y; table = u }
 ran_cong q p g h x y z w t u eq ez eg ex et = rw (eq, ez, eg, ex, et)
 
 module _ (t : Table) (bs : List ℕ) (at q n m : ℕ) (a : Answer) (eq : q ≡ field 4 bs at) (en : n ≡ field 4 bs (at + 4)) (em : m ≡ field 4 bs (at + 8)) where
@@ -44,7 +44,7 @@ module _ (t : Table) (bs : List ℕ) (at q n m : ℕ) (a : Answer) (eq : q ≡ f
 
   pub ran_is : (g : ℕ) → a ≡ (call_done t q (take (at + 12 + n - (at + 12)) (drop (at + 12) bs)) (take (at + 12 + n + m - (at + 12 + n)) (drop (at + 12 + n) bs))).answer
       → to_z w32 (of_z w32 a.result) ≡ a.result → g ≡ charge a.table.mappings
-      → record { request = q; result = to_z w32 (of_z w32 a.result); charge = g; next = at + 12 + n + m; table = a.table } ≡ ran_at t bs at
+      → record { line = record { request = q; result = to_z w32 (of_z w32 a.result); charge = g }; next = at + 12 + n + m; table = a.table } ≡ ran_at t bs at
   unfolding ran_at ran_by order_at
   ran_is g e ez eg =
       let f : a ≡ answer_to t (order_at bs at) = answer-is e in

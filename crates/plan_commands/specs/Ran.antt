@@ -14,7 +14,7 @@ answer_to t o = (call_done t o.request o.bytes o.area).answer
 
 -- its result, the charge after it, and where the next command stands
 unfoldable pub ran_by : Order → ℕ → Answer → Ran
-ran_by o next a = record { request = o.request; result = a.result; charge = charge a.table.mappings; next = next; table = a.table }
+ran_by o next a = record { line = record { request = o.request; result = a.result; charge = charge a.table.mappings }; next = next; table = a.table }
 
 unfoldable pub ran_at : Table → List ℕ → ℕ → Ran
 ran_at t bs at = ran_by (order_at bs at) (item_end Commands bs at) (answer_to t (order_at bs at))

@@ -13,12 +13,18 @@ mod charging;
 
 use charging::charge_of;
 
-// What a command leaves: the numbers of its line, the place of the next command, the table.
+// The numbers of a command's line: the request, the result, the charge after it.
 #[derive(Clone, Copy)]
-pub struct Ran {
+pub struct Line {
     pub request: u32,
     pub result: i32,
     pub charge: u64,
+}
+
+// What a command leaves: its line, the place of the next command, the table.
+#[derive(Clone, Copy)]
+pub struct Ran {
+    pub line: Line,
     pub next: usize,
     pub table: Table,
 }
@@ -58,11 +64,10 @@ pub fn run_at(t: Table, s: &[u8], at: usize, cmd: &mut [u8], area: &mut [u8]) ->
         &mut cmd[..n],
         &mut area[..m],
     );
-    Ran {
+    let line = Line {
         request,
         result,
         charge: charge_of(&table.mappings),
-        next,
-        table,
-    }
+    };
+    Ran { line, next, table }
 }

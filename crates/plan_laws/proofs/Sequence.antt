@@ -1,5 +1,5 @@
 -- Laws of a plan: the ledger of its calls and their answers tells the table that its run leaves, and each of its lines.
-use Rattle.std.specs.Prelude.{ℕ, zero, suc, ◌+◌, ◌≤◌, ◌^◌, ◌≡◌, refl, true, List, [], ◌∷◌, ◌++◌, map, ltb, Option, Some, None, replicate, pos}
+use Rattle.std.specs.Prelude.{ℕ, zero, suc, ◌+◌, ◌≤◌, ◌^◌, ◌≡◌, refl, Bool, true, false, List, [], ◌∷◌, ◌++◌, map, ltb, Result, Ok, Err, is_ok, replicate, pos}
 use Rattle.std.specs.Int.Signed.{lt_z}
 use Rattle.std.proofs.Common.{sym, ap, ◌∙◌, append_assoc, ltb-false}
 use Rattle.lists.specs.Tests.{by-test}
@@ -20,9 +20,9 @@ use Rattle.laws_history.specs.Told.{told}
 use Rattle.rules_history.specs.Told.{Told}
 use Rattle.laws_history.specs.History.{step-rel, step-good, fresh-rel, run-good, run-rel, demand_3_told}
 use Rattle.plan_shape.specs.Plan.{Device, Pair, Order, Plan}
-use Rattle.plan_setup.specs.Setting.{setup_by, onward, with_space, with_device, with_pair, with_spaces, with_devices, with_pairs, set_up}
+use Rattle.plan_setup.specs.Setting.{left, setup_by, onward, with_space, with_device, with_pair, with_spaces, with_devices, with_pairs, set_up}
 use Rattle.plan_commands.specs.Ran.{answer_to}
-use Rattle.plan.specs.Running.{line_by, lines_from, lines_after, lines_of}
+use Rattle.plan.specs.Running.{line_by, lines_from, lines_of}
 use Rattle.plan_laws.specs.Sequence.{space_call, device_call, pair_call, order_call, setup_calls, plan_calls, table_of, Set, line_told, lines_told}
 
 -- one sequence after another
@@ -31,32 +31,32 @@ unfolding after
 after-append [] ds t = refl
 after-append (c ∷ cs) ds t = after-append cs ds (table_after c t)
 
-set_onward : (s : Option Table) (f : Table → Option Table) (cs ds : List Call) (t : Table) → Set s cs t → ((u : Table) → Set (f u) ds u) → Set (onward s f) (cs ++ ds) t
+set_onward : (s : Result Table Table) (f : Table → Result Table Table) (cs ds : List Call) (t : Table) → Set s cs t → ((u : Table) → Set (f u) ds u) → Set (onward s f) (cs ++ ds) t
 unfolding onward
-set_onward None f cs ds t h k = record { table = λ u e. absurd (cc) }
-set_onward (Some v) f cs ds t h k = record { table = λ u e. (k v).table u e ∙ ap (after ds) (h.table v refl) ∙ sym (after-append cs ds t) }
+set_onward (Err v) f cs ds t h k = record { table = λ e. absurd (cc) }
+set_onward (Ok v) f cs ds t h k = record { table = λ e. (k v).table e ∙ ap (after ds) (h.table refl) ∙ sym (after-append cs ds t) }
 
--- a call that is not refused leaves the table of its answer
-settled-table : (a : Answer) (u : Table) → setup_by a ≡ Some u → u ≡ a.table
+-- a call leaves the table of its answer, refused or not
+settled-left : (a : Answer) → left (setup_by a) ≡ a.table
 unfolding setup_by
-settled-table a u e = by-test (lt_z a.result (pos 0)) (λ h. let z : ◌≡◌ {A = Option Table} None (Some u) = rw h at e in absurd (cc)) (λ h. let z : ◌≡◌ {A = Option Table} (Some a.table) (Some u) = rw h at e in cc)
+settled-left a = by-test (lt_z a.result (pos 0)) (λ h. rw h refl) (λ h. rw h refl)
 
 space-set : (t : Table) → Set (with_space t) (space_call ∷ []) t
 unfolding with_space after
-space-set t = record { table = λ u e. settled-table _ u e }
+space-set t = record { table = λ e. settled-left _ }
 
 device-set : (d : Device) (t : Table) → Set (with_device d t) (device_call d ∷ []) t
 unfolding with_device after bind_call
-device-set d t = record { table = λ u e. settled-table _ u e }
+device-set d t = record { table = λ e. settled-left _ }
 
 pair_set : (p : Pair) (t : Table) → Set (with_pair p t) (pair_call p ∷ []) t
 unfolding with_pair after attach_call
-pair_set p t = record { table = λ u e. settled-table _ u e }
+pair_set p t = record { table = λ e. settled-left _ }
 
 -- nothing is done
-kept-set : (t : Table) → Set (Some t) [] t
+kept-set : (t : Table) → Set (Ok t) [] t
 unfolding after
-kept-set t = record { table = λ u e. let f : u ≡ t = cc in f }
+kept-set t = record { table = λ e. refl }
 
 spaces-set : (n : ℕ) (t : Table) → Set (with_spaces n t) (replicate n space_call) t
 unfolding with_spaces
@@ -76,7 +76,7 @@ pairs_set (p ∷ ps) t = set_onward (with_pair p t) (with_pairs ps) (pair_call p
 -- the limit that is permitted, and the fresh table
 fresh_set : (limit : ℕ) → Set (setup_by (fresh_answer limit)) [] (fresh_table limit)
 unfolding fresh_answer after
-fresh_set limit = record { table = λ u e. settled-table _ u e }
+fresh_set limit = record { table = λ e. settled-left _ }
 
 -- the whole setup
 pub setup_set : (p : Plan) → Set (set_up p) (setup_calls p) (fresh_table p.limit)
@@ -96,31 +96,31 @@ orders-after [] t = refl
 orders-after (o ∷ os) t = orders-after os (call_done t o.request o.bytes o.area).answer.table
 
 -- a limit above 2^36 is refused
-fresh-permitted : (limit : ℕ) (u : Table) → setup_by (fresh_answer limit) ≡ Some u → limit ≤ 2 ^ 36
+fresh-permitted : (limit : ℕ) → is_ok (setup_by (fresh_answer limit)) ≡ true → limit ≤ 2 ^ 36
 unfolding setup_by fresh_answer signed_result
-fresh-permitted limit u e = by-test (ltb (2 ^ 36) limit) (λ h. let z : ◌≡◌ {A = Option Table} None (Some u) = rw h at e in absurd (cc)) (λ h. ltb-false (2 ^ 36) limit h)
+fresh-permitted limit e = by-test (ltb (2 ^ 36) limit) (λ h. let z : ◌≡◌ {A = Bool} false true = rw h at e in absurd (cc)) (λ h. ltb-false (2 ^ 36) limit h)
 
 -- a setup that is not refused has a permitted limit
-onward-some : (s : Option Table) (f : Table → Option Table) (u : Table) → onward s f ≡ Some u → (v : Table) × (s ≡ Some v)
+onward-refused : (s : Result Table Table) (f : Table → Result Table Table) → is_ok (onward s f) ≡ true → is_ok s ≡ true
 unfolding onward
-onward-some None f u e = absurd (cc)
-onward-some (Some v) f u e = (v, refl)
+onward-refused (Err t) f e = e
+onward-refused (Ok t) f e = refl
 
-pub limit-permitted : (p : Plan) (u : Table) → set_up p ≡ Some u → p.limit ≤ 2 ^ 36
+pub limit-permitted : (p : Plan) → is_ok (set_up p) ≡ true → p.limit ≤ 2 ^ 36
 unfolding set_up
-limit-permitted p u e =
-    let a = onward-some (onward (onward (setup_by (fresh_answer p.limit)) (with_spaces p.spaces)) (with_devices p.bound)) (with_pairs p.attached) u e in
-    let b = onward-some (onward (setup_by (fresh_answer p.limit)) (with_spaces p.spaces)) (with_devices p.bound) a.0 a.1 in
-    let c = onward-some (setup_by (fresh_answer p.limit)) (with_spaces p.spaces) b.0 b.1 in
-    fresh-permitted p.limit c.0 c.1
+limit-permitted p e =
+    fresh-permitted p.limit
+    (onward-refused (setup_by (fresh_answer p.limit)) (with_spaces p.spaces)
+    (onward-refused (onward (setup_by (fresh_answer p.limit)) (with_spaces p.spaces)) (with_devices p.bound)
+    (onward-refused (onward (onward (setup_by (fresh_answer p.limit)) (with_spaces p.spaces)) (with_devices p.bound)) (with_pairs p.attached) e)))
 
 -- THE LAW: where a plan's setup is not refused, the table after its commands is that of the plan's calls on a fresh table, so demand 3 holds of it
-pub plan_after : (p : Plan) (u : Table) → set_up p ≡ Some u → table_of u p.commands ≡ after (plan_calls p) (fresh_table p.limit)
+pub plan_after : (p : Plan) → is_ok (set_up p) ≡ true → table_of (left (set_up p)) p.commands ≡ after (plan_calls p) (fresh_table p.limit)
 unfolding plan_calls
-plan_after p u e = orders-after p.commands u ∙ ap (after (map order_call p.commands)) ((setup_set p).table u e) ∙ sym (after-append (setup_calls p) (map order_call p.commands) (fresh_table p.limit))
+plan_after p e = orders-after p.commands (left (set_up p)) ∙ ap (after (map order_call p.commands)) ((setup_set p).table e) ∙ sym (after-append (setup_calls p) (map order_call p.commands) (fresh_table p.limit))
 
-pub plan-told : (p : Plan) (u : Table) → set_up p ≡ Some u → Told (ledger_of (trace (plan_calls p) (fresh_table p.limit)) empty) (table_of u p.commands)
-plan-told p u e = rw (plan_after p u e) (demand_3_told p.limit (limit-permitted p u e) (plan_calls p))
+pub plan-told : (p : Plan) → is_ok (set_up p) ≡ true → Told (ledger_of (trace (plan_calls p) (fresh_table p.limit)) empty) (table_of (left (set_up p)) p.commands)
+plan-told p e = rw (plan_after p e) (demand_3_told p.limit (limit-permitted p e) (plan_calls p))
 
 -- ---- the lines
 
@@ -135,11 +135,10 @@ from_told (o ∷ os) t l k g q =
     rw (← (told m u (good-sound u v) r).charged, ← from_told os u m (k + 1) v r) refl
 
 -- THE LAW of the lines: each is what the calls, their answers and the ledger tell
-pub lines-told : (p : Plan) (u : Table) → set_up p ≡ Some u → lines_of p ≡ lines_told 0 (ledger_of (trace (setup_calls p) (fresh_table p.limit)) empty) (trace (map order_call p.commands) (after (setup_calls p) (fresh_table p.limit)))
+pub lines-told : (p : Plan) → is_ok (set_up p) ≡ true → lines_of p ≡ lines_told 0 (ledger_of (trace (setup_calls p) (fresh_table p.limit)) empty) (trace (map order_call p.commands) (after (setup_calls p) (fresh_table p.limit)))
 unfolding lines_of
-lines-told p u e =
+lines-told p e =
     let f = fresh_table p.limit in
-    let g : good f ≡ true = fresh-good p.limit (limit-permitted p u e) in
-    ap (λ (s : Option Table). lines_after s p.commands) e
-    ∙ ap (λ (t : Table). lines_from 0 t p.commands) ((setup_set p).table u e)
+    let g : good f ≡ true = fresh-good p.limit (limit-permitted p e) in
+    ap (λ (t : Table). lines_from 0 t p.commands) ((setup_set p).table e)
     ∙ from_told p.commands (after (setup_calls p) f) (ledger_of (trace (setup_calls p) f) empty) 0 (run-good (setup_calls p) f g) (run-rel (setup_calls p) f empty g (fresh-rel p.limit))

@@ -1,10 +1,10 @@
 -- A plan as a sequence of calls on a fresh table, and its lines as these calls, their answers and the ledger tell them.
-use Rattle.std.specs.Prelude.{ℕ, ◌+◌, ◌≡◌, List, [], ◌∷◌, ◌++◌, map, Option, Some, replicate}
+use Rattle.std.specs.Prelude.{ℕ, ◌+◌, ◌≡◌, List, [], ◌∷◌, ◌++◌, map, Result, is_ok, true, replicate}
 use Rattle.rules_table.specs.declared.Table.{Table}
 use Rattle.rules_history.specs.Calls.{Call, Event, after}
 use Rattle.rules_history.specs.Ledger.{Ledger, feed, ledger_charge}
 use Rattle.plan_shape.specs.Plan.{Device, Pair, Order, Plan}
-use Rattle.plan_setup.specs.Setting.{alloc_bytes}
+use Rattle.plan_setup.specs.Setting.{left, alloc_bytes}
 use Rattle.plan_commands.specs.Ran.{answer_to}
 use Rattle.plan.specs.Running.{Line}
 
@@ -33,8 +33,8 @@ table_of t [] = t
 table_of t (o ∷ os) = table_of (answer_to t o).table os
 
 -- a setup that was not refused left the table of its calls
-pub record Set (s : Option Table) (cs : List Call) (t : Table) : Type 0 where
-  pub table : (u : Table) → s ≡ Some u → u ≡ after cs t
+pub record Set (s : Result Table Table) (cs : List Call) (t : Table) : Type 0 where
+  pub table : is_ok s ≡ true → left s ≡ after cs t
 
 -- ---- the lines
 

@@ -4,39 +4,38 @@
 ghost use Rattle.std.specs.Prelude.{◌≤◌, length};
 ghost use Rattle.plan_run.specs.Shown.{Shows};
 
+use plan_commands::Line;
 use program_lines::{decimal, number, signed, text};
 
+// What the lines are before a plan is run.
+const EMPTY: Line = Line {
+    request: 0,
+    result: 0,
+    charge: 0,
+};
+
 // Runs a plan: how many lines it has, their numbers, and demand 3 of it. None where it is bad. The buffers have room for any plan.
-pub fn run(
-    s: &[u8],
-    cmd: &mut [u8],
-    area: &mut [u8],
-    requests: &mut [u32],
-    results: &mut [i32],
-    charges: &mut [u64],
-) -> Option<usize>
-    requires { (65536 ≤ length cmd.old) × (65536 ≤ length area.old) × (8192 ≤ length requests.old) × (8192 ≤ length results.old) × (8192 ≤ length charges.old) }
-    ensures { Shows s.now result requests.new results.new charges.new }
+pub fn run(s: &[u8], cmd: &mut [u8], area: &mut [u8], lines: &mut [Line]) -> Option<usize>
+    requires { (65536 ≤ length cmd.old) × (65536 ≤ length area.old) × (8192 ≤ length lines.old) }
+    ensures { Shows s.now result lines.new }
 {
-    plan::run(s, cmd, area, requests, results, charges)
+    plan::run(s, cmd, area, lines)
 }
 
 // The command's number, the request, the result, the charge after it.
-fn print_line(k: usize, request: u32, res: i32, charge: u64) {
+fn print_line(k: usize, line: &Line) {
     decimal(k as u64);
-    number(u64::from(request));
-    signed(res);
-    number(charge);
+    number(u64::from(line.request));
+    signed(line.result);
+    number(line.charge);
     text(b"\n");
 }
 
 // The header, then a line for each command.
-fn print_lines(count: usize, requests: &[u32], results: &[i32], charges: &[u64])
-    requires { (count ≤ length requests.now) × (count ≤ length results.now) × (count ≤ length charges.now) }
-{
+fn print_lines(lines: &[Line]) {
     text(b"step request result charge\n");
-    for k in 0..count {
-        print_line(k, requests[k], results[k], charges[k]);
+    for (k, line) in lines.iter().enumerate() {
+        print_line(k, line);
     }
 }
 
@@ -44,11 +43,9 @@ fn print_lines(count: usize, requests: &[u32], results: &[i32], charges: &[u64])
 pub fn show(s: &[u8], cmd: &mut [u8], area: &mut [u8])
     requires { (65536 ≤ length cmd.old) × (65536 ≤ length area.old) }
 {
-    let mut requests = [0; 8192];
-    let mut results = [0; 8192];
-    let mut charges = [0; 8192];
-    match run(s, cmd, area, &mut requests, &mut results, &mut charges) {
-        Some(count) => print_lines(count, &requests, &results, &charges),
+    let mut lines = [EMPTY; 8192];
+    match run(s, cmd, area, &mut lines) {
+        Some(count) => print_lines(&lines[..count]),
         None => text(b"bad plan\n"),
     }
 }

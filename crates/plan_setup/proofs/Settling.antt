@@ -1,55 +1,19 @@
--- The setup call by call: one law where a call is refused, one where it goes on.
-use Prim.Native.Nat.{ℕ, zero, suc, ◌+◌, ◌-◌, ◌*◌, ◌≤◌, ◌<◌, min}
+-- The loops of the setup, and all of it: one law where a call is refused, one where it goes on.
+use Prim.Native.Nat.{ℕ, zero, suc, ◌+◌, ◌-◌, ◌≤◌, ◌<◌, min}
 use mathlib.Core.Path.{◌≡◌, refl, sym, ap, ◌∙◌}
-use mathlib.Core.Bool.{true, false}
-use mathlib.Core.List.{List, []}
-use lib.IntN.{ℤ, pos}
-use mir.Syntax.{w32}
-use mir.Val.{to_z, of_z}
+use mathlib.Core.List.{List}
 use lib.ListN.{length}
-use lib.Signed.{lt_z}
-use Rattle.std.specs.Prelude.{Option, Some, None}
+use Rattle.std.specs.Prelude.{Result, Ok, Err}
 use native.Mathlib.Omega.{arith}
-use Rattle.rangelists.specs.declared.Reserved.{Reserved}
 use Rattle.wire.specs.Fields.{field}
-use Rattle.rules_calls.specs.Allow.{column}
 use Rattle.rules_table.specs.declared.Table.{Table}
 use Rattle.rules_calls.specs.declared.Answer.{Answer}
-use Rattle.rules_calls.specs.Answers.{fresh_answer, outcome, outcome_id}
-use Rattle.rules_calls.specs.Orders.{bind_order, attach_order, host_edit}
-use Rattle.rules_calls.specs.Call.{call_done}
+use Rattle.rules_calls.specs.Answers.{fresh_answer}
 use Rattle.plan_shape.specs.declared.Section.{Section}
 use Rattle.plan_shape.specs.declared.Section.TheVariants.{Devices, Attachments}
-use Rattle.plan_shape.specs.Plan.{item_end, items_end, part, reserved_in, device_at, pair_at, devices, pairs, attachments_at, plan_of}
+use Rattle.plan_shape.specs.Plan.{item_end, items_end, device_at, pair_at, devices, pairs, attachments_at, plan_of}
 use Rattle.plan_shape.specs.Ends.{items_room}
-use Rattle.plan_setup.specs.Setting.{setup_by, onward, alloc_bytes, with_space, with_spaces, with_device, with_devices, with_pair, with_pairs, set_up}
-
-pub call_refused : (a : Answer) → to_z w32 (of_z w32 a.result) ≡ a.result → lt_z (to_z w32 (of_z w32 a.result)) (pos 0) ≡ true → None ≡ setup_by a
-unfolding setup_by
-call_refused a e h = let k : lt_z a.result (pos 0) ≡ true = ap (λ (z : ℤ). lt_z z (pos 0)) (sym e) ∙ h in rw k refl
-
-pub call_settled : (a : Answer) → to_z w32 (of_z w32 a.result) ≡ a.result → lt_z (to_z w32 (of_z w32 a.result)) (pos 0) ≡ false → Some a.table ≡ setup_by a
-unfolding setup_by
-call_settled a e h = let k : lt_z a.result (pos 0) ≡ false = ap (λ (z : ℤ). lt_z z (pos 0)) (sym e) ∙ h in rw k refl
-
--- ---- one call
-
-pub space-is : (t : Table) (a : Answer) (s : Option Table) → a ≡ (call_done t 0x3B81 alloc_bytes []).answer → s ≡ setup_by a → s ≡ with_space t
-unfolding with_space
-space-is t a s e f = f ∙ ap setup_by e
-
-pub reserved-is : (n : ℕ) (area a b : List ℕ) → a ≡ column 0 n 0 4 area → b ≡ column 8 n 0 4 area → record { count = n; starts = a; lasts = b } ≡ reserved_in n area
-unfolding reserved_in
-reserved-is n area a b e f = rw (e, f)
-
-pub device-is : (bs : List ℕ) (at b n : ℕ) (l : Reserved) (area : List ℕ) (t : Table) (a : Answer) (s : Option Table) → b ≡ field 8 bs at → n ≡ field 4 bs (at + 8)
-    → area ≡ part (at + 12) (16 * n) bs → l ≡ reserved_in n area → a ≡ outcome_id t (host_edit t (bind_order b l)) → s ≡ setup_by a → s ≡ with_device (device_at bs at) t
-unfolding with_device device_at
-device-is bs at b n l area t a s eb en ea el ec es = es ∙ ap setup_by (ec ∙ rw (el, ea, eb, en) refl)
-
-pub pair_is : (bs : List ℕ) (at d h : ℕ) (t : Table) (a : Answer) (s : Option Table) → d ≡ field 4 bs at → h ≡ field 4 bs (at + 4) → a ≡ outcome t (host_edit t (attach_order d h)) → s ≡ setup_by a → s ≡ with_pair (pair_at bs at) t
-unfolding with_pair pair_at
-pair_is bs at d h t a s ed eh ec es = es ∙ ap setup_by (ec ∙ rw (ed, eh) refl)
+use Rattle.plan_setup.specs.Setting.{setup_by, onward, with_space, with_spaces, with_device, with_devices, with_pair, with_pairs, set_up}
 
 -- ---- the loops: what is left of the work, from the table that is reached, gives what the whole does
 
@@ -58,7 +22,7 @@ unfolding with_spaces
 spaces-turn zero t h = absurd (omega arith)
 spaces-turn (suc n) t h = let e : n ≡ suc n - 1 = omega arith in ap (λ (m : ℕ). onward (with_space t) (with_spaces m)) e
 
-pub spaces-none : (left : ℕ) (t : Table) → left ≤ 0 → with_spaces left t ≡ Some t
+pub spaces-none : (left : ℕ) (t : Table) → left ≤ 0 → with_spaces left t ≡ Ok t
 unfolding with_spaces
 spaces-none zero t h = refl
 spaces-none (suc n) t h = absurd (omega arith)
@@ -68,7 +32,7 @@ unfolding with_devices devices
 devices-turn zero bs at t h = absurd (omega arith)
 devices-turn (suc n) bs at t h = let e : n ≡ suc n - 1 = omega arith in ap (λ (m : ℕ). onward (with_device (device_at bs at) t) (with_devices (devices m bs (item_end Devices bs at)))) e
 
-pub devices-none : (left : ℕ) (bs : List ℕ) (at : ℕ) (t : Table) → left ≤ 0 → with_devices (devices left bs at) t ≡ Some t
+pub devices-none : (left : ℕ) (bs : List ℕ) (at : ℕ) (t : Table) → left ≤ 0 → with_devices (devices left bs at) t ≡ Ok t
 unfolding with_devices devices
 devices-none zero bs at t h = refl
 devices-none (suc n) bs at t h = absurd (omega arith)
@@ -78,33 +42,33 @@ unfolding with_pairs pairs
 pairs-turn zero bs at t h = absurd (omega arith)
 pairs-turn (suc n) bs at t h = let e : n ≡ suc n - 1 = omega arith in ap (λ (m : ℕ). onward (with_pair (pair_at bs at) t) (with_pairs (pairs m bs (item_end Attachments bs at)))) e
 
-pub pairs-none : (left : ℕ) (bs : List ℕ) (at : ℕ) (t : Table) → left ≤ 0 → with_pairs (pairs left bs at) t ≡ Some t
+pub pairs-none : (left : ℕ) (bs : List ℕ) (at : ℕ) (t : Table) → left ≤ 0 → with_pairs (pairs left bs at) t ≡ Ok t
 unfolding with_pairs pairs
 pairs-none zero bs at t h = refl
 pairs-none (suc n) bs at t h = absurd (omega arith)
 
 -- a call of the work that is left, `w`: it ends the work or leads on
-module _ {w r : Option Table} (c : Option Table) (f : Table → Option Table) (turn : w ≡ onward c f) (v : w ≡ r) where
-  pub turn-stops : None ≡ c → None ≡ r
+module _ {w r : Result Table Table} (c : Result Table Table) (f : Table → Result Table Table) (turn : w ≡ onward c f) (v : w ≡ r) where
+  pub turn-stops : (t : Table) → Err t ≡ c → Err t ≡ r
   unfolding onward
-  turn-stops e = ap (λ (x : Option Table). onward x f) e ∙ sym turn ∙ v
+  turn-stops t e = ap (λ (x : Result Table Table). onward x f) e ∙ sym turn ∙ v
 
-  pub turn-goes : (t : Table) → Some t ≡ c → f t ≡ r
+  pub turn-goes : (t : Table) → Ok t ≡ c → f t ≡ r
   unfolding onward
-  turn-goes t e = ap (λ (x : Option Table). onward x f) e ∙ sym turn ∙ v
+  turn-goes t e = ap (λ (x : Result Table Table). onward x f) e ∙ sym turn ∙ v
 
 -- the next space, the next device, the next attachment
-pub spaces-go : (left m : ℕ) (t u : Table) {r : Option Table} → with_spaces left t ≡ r → 0 < left → m ≡ left - 1 → Some u ≡ with_space t → with_spaces m u ≡ r
+pub spaces-go : (left m : ℕ) (t u : Table) {r : Result Table Table} → with_spaces left t ≡ r → 0 < left → m ≡ left - 1 → Ok u ≡ with_space t → with_spaces m u ≡ r
 spaces-go left m t u v h f e = ap (λ (n : ℕ). with_spaces n u) f ∙ turn-goes (with_space t) (with_spaces (left - 1)) (spaces-turn left t h) v u e
 
-pub devices-go : (left m : ℕ) (bs : List ℕ) (at x : ℕ) (t u : Table) {r : Option Table} → with_devices (devices left bs at) t ≡ r → 0 < left → m ≡ left - 1 → Some u ≡ with_device (device_at bs at) t → x ≡ item_end Devices bs at
+pub devices-go : (left m : ℕ) (bs : List ℕ) (at x : ℕ) (t u : Table) {r : Result Table Table} → with_devices (devices left bs at) t ≡ r → 0 < left → m ≡ left - 1 → Ok u ≡ with_device (device_at bs at) t → x ≡ item_end Devices bs at
     → with_devices (devices m bs x) u ≡ r
 devices-go left m bs at x t u v h f e g =
     ap (λ (n : ℕ). with_devices (devices n bs x) u) f
     ∙ ap (λ (y : ℕ). with_devices (devices (left - 1) bs y) u) g
     ∙ turn-goes (with_device (device_at bs at) t) (with_devices (devices (left - 1) bs (item_end Devices bs at))) (devices-turn left bs at t h) v u e
 
-pub pairs-go : (left m : ℕ) (bs : List ℕ) (at x : ℕ) (t u : Table) {r : Option Table} → with_pairs (pairs left bs at) t ≡ r → 0 < left → m ≡ left - 1 → Some u ≡ with_pair (pair_at bs at) t → x ≡ item_end Attachments bs at
+pub pairs-go : (left m : ℕ) (bs : List ℕ) (at x : ℕ) (t u : Table) {r : Result Table Table} → with_pairs (pairs left bs at) t ≡ r → 0 < left → m ≡ left - 1 → Ok u ≡ with_pair (pair_at bs at) t → x ≡ item_end Attachments bs at
     → with_pairs (pairs m bs x) u ≡ r
 pairs-go left m bs at x t u v h f e g =
     ap (λ (n : ℕ). with_pairs (pairs n bs x) u) f
@@ -117,40 +81,40 @@ items-left k bs left m at room some f x e = rw f (items_room k bs left at room s
 
 -- ---- the whole setup: a refusal is handed through, else the next section is done
 
-on_stop : (w : Option Table) (f : Table → Option Table) → None ≡ w → None ≡ onward w f
+on_stop : (t : Table) (w : Result Table Table) (f : Table → Result Table Table) → Err t ≡ w → Err t ≡ onward w f
 unfolding onward
-on_stop w f e = ap (λ (x : Option Table). onward x f) e
+on_stop t w f e = ap (λ (x : Result Table Table). onward x f) e
 
-on_go : (t : Table) (w y : Option Table) (f : Table → Option Table) → Some t ≡ w → y ≡ f t → y ≡ onward w f
+on_go : (t : Table) (w y : Result Table Table) (f : Table → Result Table Table) → Ok t ≡ w → y ≡ f t → y ≡ onward w f
 unfolding onward
-on_go t w y f e g = g ∙ ap (λ (x : Option Table). onward x f) e
+on_go t w y f e g = g ∙ ap (λ (x : Result Table Table). onward x f) e
 
 module _ (bs : List ℕ) (limit : ℕ) (a : Answer) (el : limit ≡ field 8 bs 0) (ea : a ≡ fresh_answer limit) where
   first-call : setup_by a ≡ setup_by (fresh_answer (field 8 bs 0))
   first-call = ap setup_by (ea ∙ ap fresh_answer el)
 
-  pub limit-refused : None ≡ setup_by a → None ≡ set_up (plan_of bs)
+  pub limit-refused : (r : Table) → Err r ≡ setup_by a → Err r ≡ set_up (plan_of bs)
   unfolding set_up plan_of
-  limit-refused h = on_stop _ _ (on_stop _ _ (on_stop _ _ (h ∙ first-call)))
+  limit-refused r h = on_stop r _ _ (on_stop r _ _ (on_stop r _ _ (h ∙ first-call)))
 
-  module _ (t : Table) (n : ℕ) (h : Some t ≡ setup_by a) (en : n ≡ field 4 bs 8) where
-    second : (s : Option Table) → s ≡ with_spaces n t → s ≡ onward (setup_by (fresh_answer (field 8 bs 0))) (with_spaces (field 4 bs 8))
+  module _ (t : Table) (n : ℕ) (h : Ok t ≡ setup_by a) (en : n ≡ field 4 bs 8) where
+    second : (s : Result Table Table) → s ≡ with_spaces n t → s ≡ onward (setup_by (fresh_answer (field 8 bs 0))) (with_spaces (field 4 bs 8))
     second s e = on_go t _ s (with_spaces (field 4 bs 8)) (h ∙ first-call) (e ∙ ap (λ (k : ℕ). with_spaces k t) en)
 
-    pub spaces-refused : None ≡ with_spaces n t → None ≡ set_up (plan_of bs)
+    pub spaces-refused : (r : Table) → Err r ≡ with_spaces n t → Err r ≡ set_up (plan_of bs)
     unfolding set_up plan_of
-    spaces-refused e = on_stop _ _ (on_stop _ _ (second None e))
+    spaces-refused r e = on_stop r _ _ (on_stop r _ _ (second (Err r) e))
 
-    module _ (u : Table) (k : ℕ) (e : Some u ≡ with_spaces n t) (ek : k ≡ field 4 bs 12) where
-      third : (d : Option Table) → d ≡ with_devices (devices k bs 16) u → d ≡ onward (onward (setup_by (fresh_answer (field 8 bs 0))) (with_spaces (field 4 bs 8))) (with_devices (devices (field 4 bs 12) bs 16))
-      third d f = on_go u _ d (with_devices (devices (field 4 bs 12) bs 16)) (second (Some u) e) (f ∙ ap (λ (m : ℕ). with_devices (devices m bs 16) u) ek)
+    module _ (u : Table) (k : ℕ) (e : Ok u ≡ with_spaces n t) (ek : k ≡ field 4 bs 12) where
+      third : (d : Result Table Table) → d ≡ with_devices (devices k bs 16) u → d ≡ onward (onward (setup_by (fresh_answer (field 8 bs 0))) (with_spaces (field 4 bs 8))) (with_devices (devices (field 4 bs 12) bs 16))
+      third d f = on_go u _ d (with_devices (devices (field 4 bs 12) bs 16)) (second (Ok u) e) (f ∙ ap (λ (m : ℕ). with_devices (devices m bs 16) u) ek)
 
-      pub devices-refused : None ≡ with_devices (devices k bs 16) u → None ≡ set_up (plan_of bs)
+      pub devices-refused : (r : Table) → Err r ≡ with_devices (devices k bs 16) u → Err r ≡ set_up (plan_of bs)
       unfolding set_up plan_of
-      devices-refused f = on_stop _ _ (third None f)
+      devices-refused r f = on_stop r _ _ (third (Err r) f)
 
-      pub all_done : (v : Table) (x m : ℕ) (p : Option Table) → Some v ≡ with_devices (devices k bs 16) u → x ≡ attachments_at bs → m ≡ field 4 bs x → p ≡ with_pairs (pairs m bs (x + 4)) v → p ≡ set_up (plan_of bs)
+      pub all_done : (v : Table) (x m : ℕ) (p : Result Table Table) → Ok v ≡ with_devices (devices k bs 16) u → x ≡ attachments_at bs → m ≡ field 4 bs x → p ≡ with_pairs (pairs m bs (x + 4)) v → p ≡ set_up (plan_of bs)
       unfolding set_up plan_of
       all_done v x m p f ex em q =
-          on_go v _ p (with_pairs (pairs (field 4 bs (attachments_at bs)) bs (attachments_at bs + 4))) (third (Some v) f)
+          on_go v _ p (with_pairs (pairs (field 4 bs (attachments_at bs)) bs (attachments_at bs + 4))) (third (Ok v) f)
           (q ∙ ap (λ (y : ℕ). with_pairs (pairs y bs (x + 4)) v) em ∙ ap (λ (y : ℕ). with_pairs (pairs (field 4 bs y) bs (y + 4)) v) ex)

@@ -1,4 +1,4 @@
--- The loop over the items of a section, and an item by its section.
+-- The loop over the items of a section.
 use Prim.Native.Nat.{ℕ, zero, suc, ◌+◌, ◌-◌, ◌≤◌, ◌<◌, min}
 use mathlib.Core.Path.{◌≡◌, refl, sym, ap, ◌∙◌}
 use mathlib.Core.List.{List}
@@ -6,8 +6,7 @@ use native.Mathlib.Omega.{arith}
 use lib.ListN.{length}
 use Rattle.wire.specs.Fields.{field}
 use Rattle.plan_shape.specs.declared.Section.{Section}
-use Rattle.plan_shape.specs.declared.Section.TheVariants.{Devices, Attachments, Commands}
-use Rattle.plan_shape.specs.Plan.{device_end, command_end, item_end, items_end, section_end}
+use Rattle.plan_shape.specs.Plan.{item_end, items_end, section_end}
 use Rattle.plan_shape.specs.Ends.{items_from, section_from, items_turn}
 
 pub items_none : (k : Section) (bs : List ℕ) (at left : ℕ) → left ≤ 0 → items_end k left bs at ≡ at
@@ -34,11 +33,3 @@ section_start k bs at n m x e g f = rw (g, e, f)
 
 pub section_cut : (k : Section) (bs : List ℕ) (at x : ℕ) → x ≡ min (at + 4) (length bs + 1) → length bs < x → x ≡ min (section_end k bs at) (length bs + 1)
 section_cut k bs at x e l = omega (arith, section_from k bs at)
-
--- the section of a kind that was told by cases
-pub item_is : (k : Section) (bs : List ℕ) (at x y : ℕ) → x ≡ min y (length bs + 1) → y ≡ item_end k bs at → x ≡ min (item_end k bs at) (length bs + 1)
-item_is k bs at x y e f = e ∙ ap (λ (z : ℕ). min z (length bs + 1)) f
-
-pub item_cases : (k : Section) (bs : List ℕ) (at : ℕ) → (k ≡ Devices → device_end bs at ≡ item_end k bs at) × (k ≡ Attachments → at + 8 ≡ item_end k bs at) × (k ≡ Commands → command_end bs at ≡ item_end k bs at)
-unfolding item_end
-item_cases k bs at = (λ e. rw e refl, λ e. rw e refl, λ e. rw e refl)

@@ -1,7 +1,7 @@
 -- A plan's bytes (document 01): limit u64; then sections, each after its u32 count: spaces (no bytes), devices (bitmap u64, range count, ranges), attachments (device id, space id),
 -- commands (request, command length, range length, command bytes, range area).
 use Rattle.std.specs.Prelude.{ℕ, zero, suc, ◌+◌, ◌*◌, Bool, ◌&&◌, List, [], ◌∷◌, leb, eqb, length, take, drop}
-use Rattle.rangelists.specs.declared.Reserved.{Reserved}
+use Rattle.rangelists.specs.Listed.{Reserved}
 use Rattle.wire.specs.Fields.{field}
 use Rattle.rules_calls.specs.Allow.{column}
 use Rattle.plan_shape.specs.declared.Section.{Section}

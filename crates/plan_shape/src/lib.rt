@@ -20,6 +20,7 @@ fn end_after(s: &[u8], at: usize, size: usize) -> usize
     at.saturating_add(size).min(s.len() + 1)
 }
 
+#[tactic(auto, unfolding(crate::specs::Plan::device_end))]
 fn device_end(s: &[u8], at: usize) -> usize
     requires { length s.now ≤ 65536 }
     ensures { result ≡ min (device_end s.now at) (length s.now + 1) }
@@ -32,6 +33,7 @@ fn device_end(s: &[u8], at: usize) -> usize
     end_after(s, at, 12 + 16 * count)
 }
 
+#[tactic(auto, unfolding(crate::specs::Plan::command_end))]
 fn command_end(s: &[u8], at: usize) -> usize
     requires { length s.now ≤ 65536 }
     ensures { result ≡ min (command_end s.now at) (length s.now + 1) }
@@ -45,6 +47,7 @@ fn command_end(s: &[u8], at: usize) -> usize
     end_after(s, at, 12 + bytes + area)
 }
 
+#[tactic(auto, unfolding(crate::specs::Plan::item_end))]
 pub fn item_end(s: &[u8], section: Section, at: usize) -> usize
     requires { length s.now ≤ 65536 }
     ensures { result ≡ min (item_end section s.now at) (length s.now + 1) }
@@ -57,6 +60,7 @@ pub fn item_end(s: &[u8], section: Section, at: usize) -> usize
 }
 
 // The end of the section whose count stands at a place. It stops at an item that is cut, whatever the count.
+#[tactic(auto, using(crate::proofs::Ending::section_start, crate::proofs::Ending::section_cut, crate::proofs::Ending::items_cut, crate::proofs::Ending::items_on, crate::proofs::Ending::items_done))]
 pub fn section_end(s: &[u8], section: Section, at: usize) -> usize
     requires { length s.now ≤ 65536 }
     ensures { result ≡ min (section_end section s.now at) (length s.now + 1) }

@@ -1,6 +1,6 @@
 -- A list of ranges as the records hold it (document 01, "Table"): arrays of starts and lasts with a count, and what the rules ask of such a list.
 use Prim.Native.Nat.{ℕ, zero, suc, ◌+◌, ◌≤◌, ◌<◌, min}
-use Rattle.std.specs.Prelude.{◌≡◌, refl, Bool, true, false, List, [], ◌∷◌, leb, length, get_or, take, drop, Option, None, Some, is_some}
+use Rattle.std.specs.Prelude.{◌≡◌, refl, Bool, true, false, List, [], ◌∷◌, leb, length, get_or, replicate, take, drop, Option, None, Some, is_some}
 use Rattle.std.proofs.Common.{sym, ap, ◌∙◌, le_of_suc-le-suc, not-suc-le-zero}
 use native.Mathlib.Omega.{arith}
 use Rattle.std.proofs.Math.ListN.{length-take}
@@ -9,8 +9,7 @@ use Rattle.lists.specs.Search.{any, all, seek, seek-none, seek-any_false, seek-s
 use Rattle.lists.specs.Pairs.{clashes, clashes-false_at, clashes-slot}
 use Rattle.ranges.specs.declared.Range.{Range}
 use Rattle.ranges.specs.Ranges.{range, holds, share, share-address, share-false}
-use Rattle.rangelists.specs.declared.Reserved.{Reserved}
-use Rattle.rangelists.specs.declared.Allowed.{Allowed}
+use Rattle.rangelists.specs.declared.RangeList.{RangeList}
 
 -- the ranges of an array of starts and an array of lasts, place by place
 unfoldable pub places : List ℕ → List ℕ → List Range
@@ -22,12 +21,26 @@ places (s ∷ ss) (l ∷ ls) = range s l ∷ places ss ls
 unfoldable pub listed : ℕ → List ℕ → List ℕ → List Range
 listed n ss ls = take n (places ss ls)
 
--- the ranges in use, in the order given
-unfoldable pub reserved : Reserved → List Range
-reserved l = listed (min l.count 4) l.starts l.lasts
+-- a list of at most n ranges: those in use, in the order given
+unfoldable pub ranges_in : {n : ℕ} → RangeList n → List Range
+ranges_in {n} l = listed (min l.count n) l.starts l.lasts
 
-unfoldable pub allowed : Allowed → List Range
-allowed l = listed (min l.count 8) l.starts l.lasts
+-- an empty one, with all its places zero
+abbrev pub no_ranges : (n : ℕ) → RangeList n
+no_ranges n = record { count = 0; starts = replicate n 0; lasts = replicate n 0 }
+
+-- a device's reserved ranges, and a space's allow list
+abbrev pub Reserved : Type 0
+Reserved = RangeList 4
+
+abbrev pub Allowed : Type 0
+Allowed = RangeList 8
+
+abbrev pub reserved : Reserved → List Range
+reserved l = ranges_in l
+
+abbrev pub allowed : Allowed → List Range
+allowed l = ranges_in l
 
 -- what past the end of such a list is read
 abbrev pub zero_range : Range

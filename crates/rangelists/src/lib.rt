@@ -1,28 +1,26 @@
 // Short lists of ranges by value, each as an array of starts, an array of lasts and a count: a device's reserved ranges and an allow list.
-// One loop over slices serves both lengths.
+// What is asked of a list is asked of two slices: a list in the words of a head is asked in place.
 #![tactic(auto)]
 
-ghost use Rattle.std.specs.Prelude.{◌≡◌, ◌+◌, ◌≤◌, ◌<◌, min, length, is_some};
+ghost use Rattle.std.specs.Prelude.{◌≡◌, ◌+◌, ◌≤◌, ◌<◌, min, length, is_some, get_or};
 ghost use Rattle.ranges.specs.Ranges.{range};
-ghost use Rattle.rangelists.specs.Listed.{listed, reserved, allowed, touched_from, first_touched, valid, overlap};
+ghost use Rattle.rangelists.specs.Listed.{ranges_in, no_ranges, zero_range, touched_from, first_touched, valid, overlap};
 
 use ranges::Range;
 
-// The reserved ranges of a device. Places from count on are not in use.
+// A list of at most N ranges. Places from count on are not in use.
 #[derive(Clone, Copy)]
-pub struct Reserved {
+pub struct RangeList<const N: usize> {
     pub count: u32,
-    pub starts: [u64; 4],
-    pub lasts: [u64; 4],
+    pub starts: [u64; N],
+    pub lasts: [u64; N],
 }
 
-// An allow list, in the order given. Places from count on are not in use.
-#[derive(Clone, Copy)]
-pub struct Allowed {
-    pub count: u32,
-    pub starts: [u64; 8],
-    pub lasts: [u64; 8],
-}
+// The reserved ranges of a device.
+pub type Reserved = RangeList<4>;
+
+// An allow list, in the order given.
+pub type Allowed = RangeList<8>;
 
 // How many of `room` places a count names.
 pub fn used(count: u32, room: usize) -> usize
@@ -31,80 +29,123 @@ pub fn used(count: u32, room: usize) -> usize
     room.min(count as usize)
 }
 
-// The first place, from `from` on, whose range shares an address with r.
-pub fn touched_from<'a>(
-    starts: &'a [u64],
-    lasts: &'a [u64],
-    n: usize,
-    from: usize,
-    r: Range,
-) -> Option<usize>
-    requires { (n ≤ length starts.now) × (n ≤ length lasts.now) }
-    ensures { result ≡ touched_from r from (listed n starts.now lasts.now) }
-{
-    for i in from..n {
-        let q = Range {
-            start: starts[i],
-            last: lasts[i],
-        };
-        if ranges::shares(r, q) {
-            return Some(i);
+// Ranges by the arrays of their starts and of their lasts, place by place.
+#[derive(Clone, Copy)]
+pub struct Ranges<'a> {
+    pub starts: &'a [u64],
+    pub lasts: &'a [u64],
+    pub ghost even: { length starts.now ≡ length lasts.now },
+}
+
+impl Ranges<'_> {
+    ghost use Rattle.rangelists.specs.Held.{ranges_of};
+
+    #[tactic(auto, using(crate::proofs::Held::length_places))]
+    pub fn len(&self) -> usize
+        ensures { result ≡ length (ranges_of self.now) }
+    {
+        self.starts.len()
+    }
+
+    // The range at place i.
+    #[tactic(auto, using(crate::proofs::Held::length_places, crate::proofs::Held::place_at))]
+    pub fn at(&self, i: usize) -> Range
+        requires { i < length (ranges_of self.now) }
+        ensures { result ≡ get_or (ranges_of self.now) i zero_range }
+    {
+        Range {
+            start: self.starts[i],
+            last: self.lasts[i],
         }
     }
-    None
+
+    // The first place, from `from` on, whose range shares an address with r.
+    #[tactic(auto, using(crate::proofs::Listing::touched_here, crate::proofs::Listing::touched_on, crate::proofs::Listing::touched_none))]
+    pub fn first_touched(&self, from: usize, r: Range) -> Option<usize>
+        ensures { result ≡ touched_from r from (ranges_of self.now) }
+    {
+        for i in from..self.len() {
+            if ranges::shares(r, self.at(i)) {
+                return Some(i);
+            }
+        }
+        None
+    }
+
+    // Whether each start is at most its last.
+    pub fn is_valid(&self) -> bool
+        ensures { result ≡ valid (ranges_of self.now) }
+    {
+        self.starts.iter().zip(self.lasts).all(|(s, l)| s <= l)
+    }
+
+    // Whether some two ranges share an address.
+    #[tactic(auto, using(crate::proofs::Listing::overlap_here, crate::proofs::Listing::overlap_on, crate::proofs::Listing::overlap_none), unfolding(crate::specs::Listed::overlap))]
+    pub fn has_overlap(&self) -> bool
+        ensures { result ≡ overlap (ranges_of self.now) }
+    {
+        for i in 0..self.len() {
+            if self.first_touched(i + 1, self.at(i)).is_some() {
+                return true;
+            }
+        }
+        false
+    }
 }
 
-// Whether each start is at most its last.
-pub fn all_valid<'a>(starts: &'a [u64], lasts: &'a [u64], n: usize) -> bool
-    requires { (n ≤ length starts.now) × (n ≤ length lasts.now) }
-    ensures { result ≡ valid (listed n starts.now lasts.now) }
-{
-    (0..n).all(|i| starts[i] <= lasts[i])
-}
+impl<const N: usize> RangeList<N> {
+    ghost use Rattle.rangelists.specs.Held.{ranges_of};
 
-// Whether some two ranges share an address.
-pub fn some_overlap<'a>(starts: &'a [u64], lasts: &'a [u64], n: usize) -> bool
-    requires { (n ≤ length starts.now) × (n ≤ length lasts.now) }
-    ensures { result ≡ overlap (listed n starts.now lasts.now) }
-{
-    (0..n).any(|i| {
-        let r = Range {
-            start: starts[i],
-            last: lasts[i],
-        };
-        touched_from(starts, lasts, n, i + 1, r).is_some()
-    })
-}
+    // No range, and every place zero.
+    pub fn empty() -> Self
+        ensures { result ≡ no_ranges N }
+    {
+        RangeList {
+            count: 0,
+            starts: [0; N],
+            lasts: [0; N],
+        }
+    }
 
-// The first reserved range that shares an address with r.
-pub fn reserved_touched(l: Reserved, r: Range) -> Option<usize>
-    ensures { result ≡ first_touched r (reserved l) }
-{
-    touched_from(&l.starts, &l.lasts, used(l.count, 4), 0, r)
-}
+    // How many places are in use.
+    pub fn used(&self) -> usize
+        ensures { result ≡ min self.now.count N }
+    {
+        used(self.count, N)
+    }
 
-// The first range of an allow list that shares an address with r.
-pub fn allowed_touched(l: Allowed, r: Range) -> Option<usize>
-    ensures { result ≡ first_touched r (allowed l) }
-{
-    touched_from(&l.starts, &l.lasts, used(l.count, 8), 0, r)
-}
+    // The ranges in use.
+    #[tactic(auto, using(crate::proofs::Held::places_first, crate::proofs::Held::length_places), unfolding(crate::specs::Listed::ranges_in))]
+    pub fn in_use(&self) -> Ranges<'_>
+        ensures same { ranges_of result ≡ ranges_in self.now }
+        ensures few { length (ranges_of result) ≤ N }
+    {
+        let n = self.used();
+        Ranges {
+            starts: &self.starts[..n],
+            lasts: &self.lasts[..n],
+        }
+    }
 
-pub fn reserved_valid(l: Reserved) -> bool
-    ensures { result ≡ valid (reserved l) }
-{
-    all_valid(&l.starts, &l.lasts, used(l.count, 4))
-}
+    // The first range that shares an address with r.
+    #[tactic(auto, unfolding(crate::specs::Listed::first_touched))]
+    pub fn first_touched(&self, r: Range) -> Option<usize>
+        ensures { result ≡ first_touched r (ranges_in self.now) }
+    {
+        self.in_use().first_touched(0, r)
+    }
 
-pub fn allowed_valid(l: Allowed) -> bool
-    ensures { result ≡ valid (allowed l) }
-{
-    all_valid(&l.starts, &l.lasts, used(l.count, 8))
-}
+    // Whether each start is at most its last.
+    pub fn is_valid(&self) -> bool
+        ensures { result ≡ valid (ranges_in self.now) }
+    {
+        self.in_use().is_valid()
+    }
 
-// Whether some two ranges of an allow list share an address. A device's may.
-pub fn allowed_overlap(l: Allowed) -> bool
-    ensures { result ≡ overlap (allowed l) }
-{
-    some_overlap(&l.starts, &l.lasts, used(l.count, 8))
+    // Whether some two ranges share an address. A device's may.
+    pub fn has_overlap(&self) -> bool
+        ensures { result ≡ overlap (ranges_in self.now) }
+    {
+        self.in_use().has_overlap()
+    }
 }

@@ -1,4 +1,2 @@
-pub mod Ending
 pub mod Pages
-pub mod Paging
 pub mod Spans

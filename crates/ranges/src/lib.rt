@@ -2,7 +2,7 @@
 // Every test is total: no sum that can wrap is computed, so a broken table needs no case of its own.
 #![tactic(auto)]
 
-ghost use Rattle.std.specs.Prelude.{◌≡◌, ◌≤◌, ◌^◌, min, max};
+ghost use Rattle.std.specs.Prelude.{◌≡◌, ◌≤◌, ◌^◌};
 ghost use Rattle.ranges.specs.Ranges.{share, inside, passes, last_of, span};
 ghost use Rattle.ranges.specs.Pages.{pages_touched};
 
@@ -15,26 +15,22 @@ pub struct Range {
     pub last: u64,
 }
 
-pub fn higher(a: u64, b: u64) -> u64
-    ensures { result ≡ max a b }
-{
-    a.max(b)
-}
-
-pub fn lower(a: u64, b: u64) -> u64
-    ensures { result ≡ min a b }
-{
-    a.min(b)
-}
+// Every address.
+pub const EVERYWHERE: Range = Range {
+    start: 0,
+    last: U64MAX,
+};
 
 // Whether two ranges share an address.
+#[tactic(auto, unfolding(crate::specs::Ranges::share, crate::specs::Ranges::shared_start, crate::specs::Ranges::shared_last))]
 pub fn shares(r: Range, q: Range) -> bool
     ensures { result ≡ share r q }
 {
-    higher(r.start, q.start) <= lower(r.last, q.last)
+    r.start.max(q.start) <= r.last.min(q.last)
 }
 
 // Whether r lies wholly inside q.
+#[tactic(auto, unfolding(crate::specs::Ranges::inside))]
 pub fn is_inside(r: Range, q: Range) -> bool
     ensures { result ≡ inside r q }
 {
@@ -42,6 +38,7 @@ pub fn is_inside(r: Range, q: Range) -> bool
 }
 
 // Whether start + length - 1 passes U64MAX.
+#[tactic(auto, unfolding(crate::specs::Ranges::passes))]
 pub fn passes_max(start: u64, length: u64) -> bool
     ensures { result ≡ passes start length }
 {
@@ -49,12 +46,14 @@ pub fn passes_max(start: u64, length: u64) -> bool
 }
 
 // start + length - 1, or U64MAX where that is passed. A length of 0 counts as 1: each rule refuses it first.
+#[tactic(auto, unfolding(crate::specs::Ranges::last_of))]
 pub fn last_of(start: u64, length: u64) -> u64
     ensures { result ≡ last_of start length }
 {
     start.saturating_add(length.saturating_sub(1))
 }
 
+#[tactic(auto, unfolding(crate::specs::Ranges::span))]
 pub fn span_of(start: u64, length: u64) -> Range
     ensures { result ≡ span start length }
 {
@@ -65,6 +64,7 @@ pub fn span_of(start: u64, length: u64) -> Range
 }
 
 // How many pages of 4,096 bytes hold one of the length bytes from memory on.
+#[tactic(auto, unfolding(crate::specs::Pages::pages_touched))]
 pub fn pages_touched(memory: u64, length: u64) -> u64
     ensures { (result ≡ pages_touched memory length) × (result ≤ 2 ^ 53) }
 {

@@ -1,13 +1,16 @@
 -- What each return tells: one law for each check of a place.
 use Rattle.std.specs.Prelude.{Option}
 use Prim.Native.Nat.{ℕ, ◌≤◌}
-use mathlib.Core.Path.{◌≡◌, sym, ap, ◌∙◌}
+use mathlib.Core.Path.{◌≡◌, refl, sym, ap, ◌∙◌}
 use mathlib.Core.Bool.{Bool, true, false, not}
 use mathlib.Core.List.{List, [], ◌∷◌}
 use native.Mathlib.Omega.{arith}
 use Rattle.lists.specs.Tests.{by-test}
 use Rattle.lists.specs.Search.{any}
 use Rattle.lists.specs.Checks.{Check, when, first, first-nil, first-fires, first_passes}
+use Rattle.checks.specs.declared.Errno.{Errno}
+use Rattle.checks.specs.declared.Errno.TheVariants.{EPERM, ENOENT, E2BIG, ENOMEM, EFAULT, EBUSY, EEXIST, EINVAL, ENOTTY, ENOSPC, EOVERFLOW, EMSGSIZE, EOPNOTSUPP, EADDRINUSE, EUCLEAN}
+use Rattle.checks.specs.Refused.{number_of}
 use Rattle.ranges.specs.declared.Range.{Range}
 use Rattle.ranges.specs.Ranges.{U64MAX, share, span}
 use Rattle.alignment.specs.Multiples.{multiple, fits}
@@ -26,6 +29,24 @@ use Rattle.rules_reasons.specs.Reasons.{named, object_touched, record_touched, l
 use Rattle.reason_words.specs.Words.{Tells}
 use Rattle.reason_place.specs.Told.{place_reason}
 use Rattle.reason_place.proofs.Shortness.{short-run}
+
+-- 22 is EINVAL alone
+pub invalid : (n : Errno) → number_of n ≡ 22 → n ≡ EINVAL
+invalid EPERM h = absurd (omega (arith, h))
+invalid ENOENT h = absurd (omega (arith, h))
+invalid E2BIG h = absurd (omega (arith, h))
+invalid ENOMEM h = absurd (omega (arith, h))
+invalid EFAULT h = absurd (omega (arith, h))
+invalid EBUSY h = absurd (omega (arith, h))
+invalid EEXIST h = absurd (omega (arith, h))
+invalid EINVAL h = refl
+invalid ENOTTY h = absurd (omega (arith, h))
+invalid ENOSPC h = absurd (omega (arith, h))
+invalid EOVERFLOW h = absurd (omega (arith, h))
+invalid EMSGSIZE h = absurd (omega (arith, h))
+invalid EOPNOTSUPP h = absurd (omega (arith, h))
+invalid EADDRINUSE h = absurd (omega (arith, h))
+invalid EUCLEAN h = absurd (omega (arith, h))
 
 module _ (os : List Object) (ms : List Mapping) (t : Target) where
   abbrev s : ℕ

@@ -7,18 +7,18 @@ ghost use Rattle.rules_table.specs.Flags.{bit};
 ghost use Rattle.rules_table.specs.Spaces.{alignment};
 ghost use Rattle.rules_table.specs.Words.{objects_in};
 ghost use Rattle.layout_mappings.specs.Words.{records_of};
-ghost use Rattle.index_search.specs.Indexed.{Indexed};
 ghost use Rattle.rules_reasons.specs.Reasons.{object_touched, record_touched};
 ghost use Rattle.reason_words.specs.Words.{Tells};
 ghost use Rattle.reason_place.specs.Told.{place_reason};
 
+use checks::Errno;
+use index_search::Mappings;
 use landing::Target;
+use layout_objects::{SLOTS, Slot};
 use ranges::Range;
 use rules_reasons::Reason;
 
-// The slots of a head, and the mapping records of a table.
-const SLOTS: usize = 32;
-
+// The mapping records of a table.
 const RECORDS: usize = 128;
 
 // The lowest id of an object that reserves an address of r in space s; 0 where none does.
@@ -26,7 +26,7 @@ pub fn lowest_object(h: &[u64; 865], s: u32, r: Range) -> u32
     ensures { result ≡ object_touched (objects_in h.now) s r }
 {
     for i in 0..SLOTS {
-        if reserved_ranges::slot_touched(h, i, s, r) {
+        if reserved_ranges::slot_touched(&Slot { head: h, at: i }, s, r) {
             return (i + 1) as u32;
         }
     }
@@ -48,16 +48,9 @@ pub fn lowest_record(ws: &[[u64; 5]], s: u32, r: Range) -> u32
 }
 
 // What is in the way of a fixed address.
-fn fixed_reason<'a>(
-    h: &'a [u64; 865],
-    ws: &'a [[u64; 5]],
-    ix: &'a [u64],
-    listed: usize,
-    a: u64,
-    t: Target,
-) -> Reason
-    requires { Indexed listed ix.now (records_of ws.now) × (0 < t.space) }
-    ensures { a ≡ alignment (objects_in h.now) t.space → bit 0 t.flags ≡ true → Tells (place_reason (objects_in h.now) (records_of ws.now) t) result }
+fn fixed_reason(h: &[u64; 865], ms: &Mappings, a: u64, t: Target) -> Reason
+    requires { 0 < t.space }
+    ensures { a ≡ alignment (objects_in h.now) t.space → bit 0 t.flags ≡ true → Tells (place_reason (objects_in h.now) (records_of ms.now.records.now) t) result }
 {
     if !alignment::is_fit(a, t.address, t.length) {
         return Reason::Misaligned;
@@ -66,49 +59,34 @@ fn fixed_reason<'a>(
     if reserved_ranges::is_touched(h, t.space, r) {
         return Reason::TouchesReserved(lowest_object(h, t.space, r));
     }
-    if index_search::is_taken(ws, ix, listed, t.space, r) {
-        return Reason::TouchesMapping(lowest_record(ws, t.space, r));
+    if ms.is_taken(t.space, r) {
+        return Reason::TouchesMapping(lowest_record(ms.records, t.space, r));
     }
     Reason::Accepted
 }
 
 // What is in the way of any other: the errno of the place tells, and the run is looked for only where there is none.
-fn automatic_reason<'a>(
-    h: &'a [u64; 865],
-    ws: &'a [[u64; 5]],
-    ix: &'a [u64],
-    listed: usize,
-    a: u64,
-    t: Target,
-) -> Reason
-    requires { Indexed listed ix.now (records_of ws.now) × (0 < t.space) × (t.length ≤ U64MAX) }
-    ensures { a ≡ alignment (objects_in h.now) t.space → bit 0 t.flags ≡ false → Tells (place_reason (objects_in h.now) (records_of ws.now) t) result }
+fn automatic_reason(h: &[u64; 865], ms: &Mappings, a: u64, t: Target) -> Reason
+    requires { (0 < t.space) × (t.length ≤ U64MAX) }
+    ensures { a ≡ alignment (objects_in h.now) t.space → bit 0 t.flags ≡ false → Tells (place_reason (objects_in h.now) (records_of ms.now.records.now) t) result }
 {
-    let o = layout_objects::object_of(h, t.space);
-    let p = landing::place_automatic(h, ws, ix, listed, a, o.allow, t);
-    if p.errno == 22 {
-        return Reason::LengthMisaligned;
-    }
-    if p.errno == 0 {
+    let allow = layout_objects::object_of(h, t.space).allow;
+    let Err(refusal) = landing::place_automatic(h, ms, a, allow, t) else {
         return Reason::Accepted;
+    };
+    match refusal {
+        Errno::EINVAL => Reason::LengthMisaligned,
+        _ => Reason::NoPlace(longest_run::longest(h, ms.records, t.space, a, allow)),
     }
-    Reason::NoPlace(longest_run::longest(h, ws, t.space, a, o.allow))
 }
 
 // What is in the way of a target in a space of alignment a.
-pub fn place_reason<'a>(
-    h: &'a [u64; 865],
-    ws: &'a [[u64; 5]],
-    ix: &'a [u64],
-    listed: usize,
-    a: u64,
-    t: Target,
-) -> Reason
-    requires { Indexed listed ix.now (records_of ws.now) × (0 < t.space) × (t.length ≤ U64MAX) }
-    ensures { a ≡ alignment (objects_in h.now) t.space → Tells (place_reason (objects_in h.now) (records_of ws.now) t) result }
+pub fn place_reason(h: &[u64; 865], ms: &Mappings, a: u64, t: Target) -> Reason
+    requires { (0 < t.space) × (t.length ≤ U64MAX) }
+    ensures { a ≡ alignment (objects_in h.now) t.space → Tells (place_reason (objects_in h.now) (records_of ms.now.records.now) t) result }
 {
     if opening::is_fixed(t.flags) {
-        return fixed_reason(h, ws, ix, listed, a, t);
+        return fixed_reason(h, ms, a, t);
     }
-    automatic_reason(h, ws, ix, listed, a, t)
+    automatic_reason(h, ms, a, t)
 }

@@ -1,53 +1,46 @@
 -- What one slot reserves, and a pass that stands at a slot.
 use Rattle.std.specs.Prelude.{Option, None, Some, is_some}
-use Prim.Native.Nat.{ℕ, ◌+◌, ◌*◌, ◌≤◌, ◌<◌, min}
+use Prim.Native.Nat.{ℕ, ◌+◌, ◌*◌, ◌≤◌, ◌<◌}
 use mathlib.Core.Path.{◌≡◌, refl, sym, ap, ◌∙◌, subst}
 use mathlib.Core.Bool.{Bool, true, false}
-use mathlib.Core.List.{List, []}
+use mathlib.Core.List.{List, [], ◌∷◌}
 use native.Mathlib.Omega.{arith}
 use lib.ListN.{length, get_or, take, drop, length-take}
-use Rattle.lists.specs.Search.{any, any-nil}
+use Rattle.lists.specs.Search.{any}
 use Rattle.ranges.specs.declared.Range.{Range}
 use Rattle.ranges.specs.Ranges.{share}
-use Rattle.rangelists.specs.declared.Reserved.{Reserved}
-use Rattle.rangelists.specs.Listed.{reserved, listed, places, first_touched, first_touched-any}
+use Rattle.rangelists.specs.Listed.{reserved, places, touched_from, first_touched, first_touched-any}
 use Rattle.placement.specs.Jumps.{Swept, Never}
 use Rattle.placement.specs.Passes.{swept-nil, swept-then, never-left, swept-most}
 use Rattle.rules_table.specs.declared.Object.{Object}
-use Rattle.rules_table.specs.Records.{zero_object, no_reserved, attached_to}
+use Rattle.rules_table.specs.Records.{zero_object, attached_to}
 use Rattle.rules_table.specs.Spaces.{reserved_for, reserved_of}
 use Rattle.reserved_ranges.specs.Gathered.{reserved_of-next, reserved_of-all, reserved_of-split, reserved_for-most, reserved_of-most}
 
 -- ---- one slot
+
+-- no places, no ranges
+nowhere : (ss ls : List ℕ) → length ss ≡ 0 → places ss ls ≡ []
+unfolding places
+nowhere [] ls e = refl
+nowhere (x ∷ ss) ls e = absurd (omega (arith, e))
 
 module _ (s : ℕ) (o : Object) (b : Bool) (eb : b ≡ attached_to s o.kind) where
   silent : b ≡ false → reserved_for s o ≡ []
   unfolding reserved_for
   silent h = rw (sym eb ∙ h)
 
-  pub reserving_none : b ≡ false → (l : Reserved) → l ≡ no_reserved → reserved l ≡ reserved_for s o
-  unfolding reserved_for reserved listed places
-  reserving_none h l e = rw (sym eb ∙ h, e)
+  pub reserving_none : b ≡ false → (ss ls : List ℕ) → length ss ≡ 0 → places ss ls ≡ reserved_for s o
+  reserving_none h ss ls e = nowhere ss ls e ∙ sym (silent h)
 
-  pub reserving_made : b ≡ true → (l : Reserved) → l ≡ o.reserved → reserved l ≡ reserved_for s o
+  pub reserving_made : b ≡ true → (rs : List Range) → rs ≡ reserved o.reserved → rs ≡ reserved_for s o
   unfolding reserved_for
-  reserving_made h l e = rw (sym eb ∙ h, e)
+  reserving_made h rs e = rw (sym eb ∙ h, e)
 
-  pub none_touches : b ≡ false → (r : Range) → false ≡ any (share r) (reserved_for s o)
-  none_touches h r = sym (ap (any (share r)) (silent h) ∙ any-nil (share r))
-
-  pub none_swept : b ≡ false → (a n x : ℕ) → x < 0x1_0000_0000_0000_0000 → Swept a n (reserved_for s o) x (Some x) 0
-  none_swept h a n x k = subst (λ (qs : List Range). Swept a n qs x (Some x) 0) (sym (silent h)) (swept-nil a n x k)
-
-pub slot-touches : (r : Range) (l : Reserved) (rs : List Range) (f : Option ℕ) (b : Bool) → reserved l ≡ rs → f ≡ first_touched r (reserved l)
-    → b ≡ is_some f → b ≡ any (share r) rs
-slot-touches r l rs f b e g h = h ∙ ap is_some g ∙ first_touched-any r (reserved l) ∙ ap (any (share r)) e
-
-pub slot-swept : (a n : ℕ) (l : Reserved) (rs : List Range) (m x : ℕ) (sp : Option ℕ) (j : ℕ) → reserved l ≡ rs → m ≡ min l.count 4
-    → Swept a n (listed m l.starts l.lasts) x sp j
-    → Swept a n rs x sp j
-unfolding reserved
-slot-swept a n l rs m x sp j e f p = subst (λ (qs : List Range). Swept a n qs x sp j) (rw f refl ∙ e) p
+-- whether one of them shares an address with r
+pub slot-touches : (r : Range) (qs rs : List Range) → qs ≡ rs → is_some (touched_from r 0 qs) ≡ any (share r) rs
+unfolding first_touched
+slot-touches r qs rs e = first_touched-any r qs ∙ ap (any (share r)) e
 
 -- ---- a pass over all slots, at slot i
 

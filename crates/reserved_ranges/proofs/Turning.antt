@@ -8,19 +8,12 @@ use native.Mathlib.Omega.{arith}
 use lib.ListN.{length, get_or, drop}
 use Rattle.ranges.specs.declared.Range.{Range}
 use Rattle.ranges.specs.Ranges.{U64MAX}
-use Rattle.rangelists.specs.declared.Reserved.{Reserved}
-use Rattle.rangelists.specs.Listed.{reserved, listed}
 use Rattle.freeranges.specs.Scan.{cover_of, run_end, run_end-nil, run_end-most}
 use Rattle.rules_table.specs.declared.Object.{Object}
 use Rattle.rules_table.specs.Records.{zero_object}
 use Rattle.rules_table.specs.Spaces.{reserved_for, reserved_of}
 use Rattle.reserved_ranges.specs.Gathered.{reserved_of-left, reserved_of-done}
 use Rattle.reserved_ranges.specs.Covers.{cover_first, cover_second, cover_nil, run_end-append}
-
--- the list of a slot, place by place
-pub slot-listed : (l : Reserved) (rs : List Range) (n : ℕ) → reserved l ≡ rs → n ≡ min l.count 4 → listed n l.starts l.lasts ≡ rs
-unfolding reserved
-slot-listed l rs n e f = rw f e
 
 module _ (os : List Object) (s i x : ℕ) where
   module _ {k : Option ℕ} (v : cover_of (reserved_of (drop i os) s) x ≡ k) (c : Option ℕ) (e : c ≡ cover_of (reserved_for s (get_or os i zero_object)) x) where

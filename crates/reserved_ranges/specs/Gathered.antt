@@ -4,7 +4,7 @@ use Rattle.std.proofs.Common.{sym, ap, ◌∙◌, append_assoc, append-nil, add-
 use Rattle.lists.specs.Tests.{by-test}
 use Rattle.lists.specs.Search.{any, any_append, any-nil, drop_turn}
 use Rattle.ranges.specs.declared.Range.{Range}
-use Rattle.rangelists.specs.Listed.{reserved, listed, places}
+use Rattle.rangelists.specs.Listed.{listed, places, ranges_in}
 use Rattle.rules_table.specs.declared.Object.{Object}
 use Rattle.rules_table.specs.Records.{zero_object, attached_to}
 use Rattle.rules_table.specs.Spaces.{reserved_for, reserved_of}
@@ -51,7 +51,7 @@ reserved_of-split os i s = ap (λ (ps : List Object). reserved_of ps s) (sym (ta
 -- ---- how many
 
 pub reserved_for-most : (s : ℕ) (o : Object) → length (reserved_for s o) ≤ 4
-unfolding reserved_for reserved listed
+unfolding reserved_for ranges_in listed
 reserved_for-most s o =
     by-test (attached_to s o.kind)
     (λ e. rw (e, length-take (min o.reserved.count 4) (places o.reserved.starts o.reserved.lasts)) (omega arith))

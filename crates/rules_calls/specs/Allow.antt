@@ -2,8 +2,7 @@
 -- a range that touches reserved: 98. The list is replaced, in the order given; count 0 empties it.
 use Rattle.std.specs.Prelude.{ℕ, zero, suc, ◌+◌, ◌-◌, ◌*◌, not, cond, List, [], ◌∷◌, ◌++◌, map, ltb, eqb, length, replicate, ◌≡◌, refl}
 use Rattle.lists.specs.Checks.{Check, when, first}
-use Rattle.rangelists.specs.declared.Allowed.{Allowed}
-use Rattle.rangelists.specs.Listed.{allowed, places, listed, reserved, ordered, valid, overlap}
+use Rattle.rangelists.specs.Listed.{Allowed, allowed, places, listed, ordered, valid, overlap, ranges_in}
 use Rattle.wire.specs.Fields.{field, put}
 use Rattle.rules_table.specs.declared.Attachment.TheVariants.{Loose, Attached}
 use Rattle.rules_table.specs.declared.Attachment.{Attachment}
@@ -83,7 +82,7 @@ abbrev edit_of : List Object → ℕ → ℕ → ℕ → List ℕ → Edit
 edit_of os s count z area = allow_edit os (record { space = s; count = count; must_be_zero = z }) area
 
 unfoldable pub allows : List Object → ℕ → ℕ → ℕ → List ℕ → Edit
-unfolding allow_edit allow_checks allow_number_checks list_checks area_list column number_at with_allow first field put valid all ordered overlap clashes any lists_touch reserved_of reserved_for reserved allowed listed places object_at space_at share shared_start shared_last
+unfolding allow_edit allow_checks allow_number_checks list_checks area_list column number_at with_allow first field put valid all ordered overlap clashes any lists_touch reserved_of reserved_for ranges_in listed places object_at space_at share shared_start shared_last
 allows os space count must_be_zero area = edit_of os space count must_be_zero area
 
 -- a range of the range area

@@ -7,7 +7,7 @@ use Rattle.ranges.specs.declared.Range.{Range}
 use Rattle.ranges.specs.Ranges.{share, shared_start, shared_last, last_of, span}
 use Rattle.alignment.specs.Multiples.{fits, multiple}
 use Rattle.alignment.specs.Pages.{smallest_page}
-use Rattle.rangelists.specs.Listed.{reserved, allowed, places, listed}
+use Rattle.rangelists.specs.Listed.{reserved, allowed, places, listed, ranges_in}
 use Rattle.rules_table.specs.declared.Attachment.{Attachment}
 use Rattle.rules_table.specs.declared.Attachment.TheVariants.{Loose, Attached}
 use Rattle.rules_table.specs.declared.Kind.TheVariants.{Device, Space}
@@ -61,7 +61,7 @@ detach_edit os d = settle (first (detach_checks (object_at os d)) 0) (accept 0 (
 -- ---- examples: to unfold `attaches` is to unfold all that it lists
 
 unfoldable pub attaches : List Object → List Mapping → ℕ → ℕ → Edit
-unfolding attach_edit attach_checks first object_at space_at any blocked_by misfits alignment_with alignment highest page_for smallest_page count_trailing_zeros multiple fits of_space extent span last_of share shared_start shared_last lists_touch reserved allowed listed places attached_object detach_edit detach_checks loose_object
+unfolding attach_edit attach_checks first object_at space_at any blocked_by misfits alignment_with alignment highest page_for smallest_page count_trailing_zeros multiple fits of_space extent span last_of share shared_start shared_last lists_touch ranges_in listed places attached_object detach_edit detach_checks loose_object
 attaches os ms d s = attach_edit os ms d s
 
 -- the plan's device, which reserves 0xFEE00000 to 0xFEEFFFFF, with pages from a size on

@@ -1,7 +1,6 @@
 -- Bind: bitmap 0, or its lowest bit above 4,096: 22; over 4 ranges 22; a start above its last 22; no record 12.
 use Rattle.std.specs.Prelude.{ℕ, zero, suc, List, [], ◌∷◌, ◌++◌, map, ◌≡◌, refl}
 use Rattle.lists.specs.Checks.{Check, first}
-use Rattle.rangelists.specs.declared.Reserved.{Reserved}
 use Rattle.rules_table.specs.declared.Attachment.TheVariants.{Loose}
 use Rattle.rules_table.specs.declared.Kind.TheVariants.{Device}
 use Rattle.rules_table.specs.declared.Object.{Object}
@@ -13,7 +12,7 @@ use Rattle.rules_calls.specs.Edits.{settle, no_record, added, accept}
 use Rattle.std.specs.Int.Count.{count_trailing_zeros}
 use Rattle.lists.specs.Search.{all, seek}
 use Rattle.alignment.specs.Pages.{smallest_page}
-use Rattle.rangelists.specs.Listed.{places, listed, reserved, ordered, valid}
+use Rattle.rangelists.specs.Listed.{Reserved, places, listed, ordered, valid, ranges_in}
 use Rattle.rules_calls.specs.declared.Change.TheVariants.{Put}
 
 -- the first n numbers, with zero in every place after them
@@ -39,7 +38,7 @@ bind_edit os bitmap l = settle (first (bind_rule os bitmap l) 0) (added (free_re
 -- ---- examples: to unfold `binds` is to unfold all that it lists
 
 unfoldable pub binds : List Object → ℕ → Reserved → Edit
-unfolding bind_edit bind_rule bind_checks first smallest_page count_trailing_zeros reserved listed places ordered valid all new_device trimmed only_first free_record seek
+unfolding bind_edit bind_rule bind_checks first smallest_page count_trailing_zeros ranges_in listed places ordered valid all new_device trimmed only_first free_record seek
 binds os bitmap l = bind_edit os bitmap l
 
 -- so many ranges, of which the first is given; 7 is in every other place

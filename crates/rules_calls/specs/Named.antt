@@ -2,7 +2,7 @@
 -- To unfold one is to unfold the door at its request.
 use Rattle.std.specs.Prelude.{ℕ, Bool, List, [], ℤ}
 use Rattle.lists.specs.Search.{find}
-use Rattle.rangelists.specs.declared.Reserved.{Reserved}
+use Rattle.rangelists.specs.Listed.{Reserved}
 use Rattle.rules_table.specs.declared.Table.{Table}
 use Rattle.rules_calls.specs.declared.Command.TheVariants.{Destroy, IoasAlloc, AllowIovas, Copy, IovaRanges, Map, Unmap}
 use Rattle.rules_calls.specs.declared.Edit.{Edit}

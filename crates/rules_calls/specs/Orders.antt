@@ -1,7 +1,7 @@
 -- What a host call asks, as one record, and the edit that it decides on any table (document 01, "Host calls, checks in order after 117"). Reach, charge and next change
 -- nothing: their edit carries the number that they tell.
 use Rattle.std.specs.Prelude.{ℕ, ◌+◌, ◌^◌, ◌≡◌, refl, Bool, false, [], ◌∷◌, map, replicate}
-use Rattle.rangelists.specs.declared.Reserved.{Reserved}
+use Rattle.rangelists.specs.Listed.{Reserved}
 use Rattle.rules_table.specs.declared.Attachment.TheVariants.{Loose}
 use Rattle.rules_table.specs.declared.Kind.TheVariants.{Device}
 use Rattle.rules_table.specs.declared.Object.{Object}

@@ -10,7 +10,7 @@ use Rattle.freeranges.specs.Written.{put_ranges}
 use Rattle.rules_table.specs.declared.Attachment.TheVariants.{Attached}
 use Rattle.rules_table.specs.declared.Kind.TheVariants.{Space, Device}
 use Rattle.rules_table.specs.declared.Object.{Object}
-use Rattle.rangelists.specs.Listed.{places, listed, reserved}
+use Rattle.rangelists.specs.Listed.{places, listed, ranges_in}
 use Rattle.rules_table.specs.Records.{no_reserved, no_allowed, space_at}
 use Rattle.rules_table.specs.Spaces.{alignment, reserved_for, reserved_of}
 use Rattle.rules_calls.specs.Allow.{no_room}
@@ -75,5 +75,5 @@ free-listed = refl
 
 -- K8: what lies below the reserved range and above it
 free-around : free_of (listed-space ∷ device ∷ []) 1 ≡ range 0 0xFEDFFFFF ∷ range 0xFEF00000 U64MAX ∷ []
-unfolding free_of free_ranges free_from without around end_below start_above between reserved_of reserved_for reserved listed places
+unfolding free_of free_ranges free_from without around end_below start_above between reserved_of reserved_for ranges_in listed places
 free-around = refl

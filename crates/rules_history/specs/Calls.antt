@@ -1,6 +1,6 @@
 -- A sequence of calls on one table: each gets the table as the last one left it. The definitions are those that the contracts of the public functions cite.
 use Rattle.std.specs.Prelude.{ℕ, Bool, List, [], ◌∷◌, ◌++◌, ℤ, pos, negsuc, ◌≡◌, refl, replicate}
-use Rattle.rangelists.specs.declared.Reserved.{Reserved}
+use Rattle.rangelists.specs.Listed.{Reserved}
 use Rattle.rules_table.specs.declared.Table.{Table}
 use Rattle.rules_calls.specs.Call.{call_done, calls}
 use Rattle.rules_calls.specs.Named.{reach_call, attach_call, detach_call, bind_call}

@@ -2,9 +2,7 @@
 use Rattle.std.specs.Prelude.{ℕ, Bool, not, ◌||◌, true, false, List, [], ◌∷◌, ltb, eqb, ◌≡◌, refl, replicate}
 use Rattle.lists.specs.Checks.{Check, when, all_pass}
 use Rattle.alignment.specs.Pages.{smallest_page}
-use Rattle.rangelists.specs.declared.Reserved.{Reserved}
-use Rattle.rangelists.specs.declared.Allowed.{Allowed}
-use Rattle.rangelists.specs.Listed.{reserved, allowed, valid, overlap, ordered, listed, places}
+use Rattle.rangelists.specs.Listed.{Reserved, Allowed, reserved, allowed, valid, overlap, ordered, listed, places, ranges_in}
 use Rattle.rules_table.specs.declared.Attachment.TheVariants.{Loose}
 use Rattle.rules_table.specs.Limits.{most_page, most_reserved, most_allowed}
 use Rattle.rules_table.specs.declared.Object.{Object}
@@ -50,10 +48,10 @@ space a b c d = record { kind = Space; bitmap = 0; reserved = no_reserved; allow
 
 -- pages of 4,096, of 8,192, none; a start at its last and above it
 device-fits : (device_fits (device 0x1000 0 1) ∷ device_fits (device 0x2000 0 1) ∷ device_fits (device 0 0 1) ∷ device_fits (device 1 5 5) ∷ device_fits (device 1 6 5) ∷ []) ≡ (true ∷ false ∷ false ∷ true ∷ false ∷ [])
-unfolding device_fits bind_checks smallest_page count_trailing_zeros reserved listed places ordered valid all any
+unfolding device_fits bind_checks smallest_page count_trailing_zeros ranges_in listed places ordered valid all any
 device-fits = refl
 
 -- neighbours, a shared address, a start above its last
 list_fits-is : (list_fits (space 0 9 10 19) ∷ list_fits (space 0 10 10 19) ∷ list_fits (space 9 0 10 19) ∷ []) ≡ (true ∷ false ∷ false ∷ [])
-unfolding list_fits allowed listed places ordered valid overlap clashes any share shared_start shared_last all
+unfolding list_fits ranges_in listed places ordered valid overlap clashes any share shared_start shared_last all
 list_fits-is = refl

@@ -11,7 +11,7 @@ use Rattle.ranges.specs.Pages.{pages_touched}
 use Rattle.alignment.specs.Multiples.{multiple, fits}
 use Rattle.alignment.specs.Pages.{smallest_page}
 use Rattle.alignment.specs.Highest.{highest}
-use Rattle.rangelists.specs.Listed.{places, listed, reserved, allowed, ordered, valid, overlap}
+use Rattle.rangelists.specs.Listed.{places, listed, reserved, allowed, ordered, valid, overlap, ranges_in}
 use Rattle.wire.specs.Fields.{zeros}
 use Rattle.rules_table.specs.declared.Attachment.TheVariants.{Attached}
 use Rattle.rules_table.specs.Limits.{most_limit, most_length, object_count, mapping_count, most_reserved, most_allowed}
@@ -136,7 +136,7 @@ good t =
 -- ---- examples: to unfold `judged` is to unfold all that it lists
 
 unfoldable judged : Table → Bool
-unfolding good when_used mapping_names device_names together apart length_fits rights_fit ends_fit clear_of aligned_to mapping_fits differ backings_agree writes_by_right device_valid device_fits bind_checks list_valid list_fits lists_touch list_clear mapping_zero reserved_rest allow_rest no_device no_list object_zero records_counted backing_number limit_holds charge charge_in backing_pages mapping_pages backs page_for alignment reserved_for reserved_of object_at space_at used of_space extent can_write bit zeros reserved allowed listed places ordered valid overlap highest smallest_page count_trailing_zeros multiple fits pages_touched share shared_start shared_last passes last_of span sum_below clashes any all find
+unfolding good when_used mapping_names device_names together apart length_fits rights_fit ends_fit clear_of aligned_to mapping_fits differ backings_agree writes_by_right device_valid device_fits bind_checks list_valid list_fits lists_touch list_clear mapping_zero reserved_rest allow_rest no_device no_list object_zero records_counted backing_number limit_holds charge charge_in backing_pages mapping_pages backs page_for alignment reserved_for reserved_of object_at space_at used of_space extent can_write bit zeros ranges_in listed places ordered valid overlap highest smallest_page count_trailing_zeros multiple fits pages_touched share shared_start shared_last passes last_of span sum_below clashes any all find
 judged t = good t
 
 -- space 1, device 2 attached to it with pages of 4,096 and 0xFEE00000 to 0xFEEFFFFF reserved, and one mapping

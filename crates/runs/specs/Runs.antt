@@ -1,6 +1,6 @@
 -- The longest run of addresses (L1): it starts at a multiple of the alignment, touches no blocked range (reserved or mapped), and lies inside one allowed range where a list
 -- exists; the lowest of equals, or that there is none. A run of n addresses from x on is what a candidate for n bytes is. `longest-is` says that `longestOf`, which computes, gives it.
-use Rattle.std.specs.Prelude.{ℕ, ◌+◌, ◌-◌, ◌≤◌, ◌<◌, min, ◌≡◌, Bool, true, false, ◌&&◌, ◌||◌, cond, List, [], ◌∷◌, leb, ltb, eqb, Option, None, Some}
+use Rattle.std.specs.Prelude.{ℕ, ◌+◌, ◌-◌, ◌≤◌, ◌<◌, min, Bool, ◌&&◌, ◌||◌, cond, List, [], ◌∷◌, leb, ltb, eqb, Option, None, Some}
 use Rattle.ranges.specs.declared.Range.{Range}
 use Rattle.ranges.specs.Ranges.{U64MAX, range, share}
 use Rattle.alignment.specs.Multiples.{lowest_multiple}

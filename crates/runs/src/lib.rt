@@ -2,9 +2,10 @@
 #![tactic(auto)]
 
 ghost use Rattle.std.specs.Prelude.{◌≡◌, ◌≤◌, length};
-ghost use Rattle.rangelists.specs.Listed.{listed};
+ghost use Rattle.rangelists.specs.Held.{ranges_of};
 ghost use Rattle.runs.specs.Runs.{ahead, better, cut_at, free_to};
 
+use rangelists::Ranges;
 use ranges::Range;
 
 // A run of addresses: its start, and one less than its length, so that all 2^64 addresses are a run too.
@@ -15,6 +16,7 @@ pub struct Run {
 }
 
 // Whether the run of k + 1 addresses from x on is longer than that of l + 1 from y on, or as long and starts no higher.
+#[tactic(auto, unfolding(crate::specs::Runs::ahead))]
 fn is_ahead(x: u64, k: u64, y: u64, l: u64) -> bool
     ensures { result ≡ ahead x k y l }
 {
@@ -25,11 +27,8 @@ fn is_ahead(x: u64, k: u64, y: u64, l: u64) -> bool
 pub fn better_of(a: Option<Run>, b: Option<Run>) -> Option<Run>
     ensures { result ≡ better a b }
 {
-    let Some(x) = a else {
-        return b;
-    };
-    let Some(y) = b else {
-        return a;
+    let (Some(x), Some(y)) = (a, b) else {
+        return a.or(b);
     };
     if is_ahead(x.start, x.more, y.start, y.more) {
         a
@@ -39,6 +38,7 @@ pub fn better_of(a: Option<Run>, b: Option<Run>) -> Option<Run>
 }
 
 // What ends at e at the latest ends before q too, where q lies above x.
+#[tactic(auto, unfolding(crate::specs::Runs::cut_at))]
 pub fn cut_at(e: u64, x: u64, q: Range) -> u64
     ensures { result ≡ cut_at e x q }
 {
@@ -50,17 +50,14 @@ pub fn cut_at(e: u64, x: u64, q: Range) -> u64
 }
 
 // The last address up to `upto` such that all from x on are in none of the ranges; nowhere, where x is in one.
-pub fn free_to<'a>(starts: &'a [u64], lasts: &'a [u64], n: usize, upto: u64, x: u64) -> Option<u64>
-    requires { (n ≤ length starts.now) × (n ≤ length lasts.now) }
-    ensures { result ≡ free_to upto x (listed n starts.now lasts.now) }
+#[tactic(auto, using(crate::proofs::Freeing::free_in, crate::proofs::Freeing::free_on, crate::proofs::Freeing::free_none))]
+pub fn free_to(l: &Ranges, upto: u64, x: u64) -> Option<u64>
+    ensures { result ≡ free_to upto x (ranges_of l.now) }
 {
     let here = Range { start: x, last: x };
     let mut e = upto;
-    for i in 0..n {
-        let q = Range {
-            start: starts[i],
-            last: lasts[i],
-        };
+    for i in 0..l.len() {
+        let q = l.at(i);
         if ranges::shares(here, q) {
             return None;
         }

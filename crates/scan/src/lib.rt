@@ -1,7 +1,7 @@
 // What MAP and COPY ask of the mapping records for a new one: a released record and a backing number.
 #![tactic(auto)]
 
-ghost use Rattle.std.specs.Prelude.{◌≡◌, true, List, ℕ, eqb, length, get_or, unwrap_or};
+ghost use Rattle.std.specs.Prelude.{◌≡◌, List, ℕ, eqb, length, get_or};
 ghost use Rattle.lists.specs.Below.{lowest};
 ghost use Rattle.rules_table.specs.Charge.{free_mapping};
 ghost use Rattle.layout_mappings.specs.Words.{records_of};
@@ -18,41 +18,16 @@ pub struct Survey {
     pub charge: u64,
 }
 
-// The lowest released slot, and the number of slots where there is none. A loop that gives a number is shorter than one that makes a Found.
-fn first_free(ws: &[[u64; 5]]) -> usize
-    ensures { result ≡ unwrap_or (free_mapping (records_of ws.now)) (length ws.now) }
-{
-    for i in 0..ws.len() {
-        let m = layout_mappings::record(ws, i);
-        if m.space == 0 {
-            return i;
-        }
-    }
-    ws.len()
-}
-
 // The lowest released slot.
 pub fn free_record(ws: &[[u64; 5]]) -> Option<usize>
     ensures { result ≡ free_mapping (records_of ws.now) }
 {
-    let i = first_free(ws);
-    if i < ws.len() {
-        return Some(i);
-    }
-    None
-}
-
-// The lowest number from 1 on that has no mark, and 129 where there is none.
-fn first_unmarked(marks: &[u8]) -> usize
-    requires { length marks.now ≡ 129 }
-    ensures { result ≡ unwrap_or (lowest (λ b. eqb (get_or marks.now b 0) 0) 128 1) 129 }
-{
-    for b in 1..129 {
-        if marks[b] == 0 {
-            return b;
+    for i in 0..ws.len() {
+        if layout_mappings::space_at(ws, i) == 0 {
+            return Some(i);
         }
     }
-    129
+    None
 }
 
 // The lowest number from 1 on that has no mark.
@@ -60,9 +35,10 @@ fn lowest_unmarked(marks: &[u8]) -> Option<usize>
     requires { length marks.now ≡ 129 }
     ensures { result ≡ lowest (λ b. eqb (get_or marks.now b 0) 0) 128 1 }
 {
-    let b = first_unmarked(marks);
-    if b < 129 {
-        return Some(b);
+    for b in 1..129 {
+        if marks[b] == 0 {
+            return Some(b);
+        }
     }
     None
 }
@@ -70,7 +46,7 @@ fn lowest_unmarked(marks: &[u8]) -> Option<usize>
 // From what the check has found: only the released slot is looked for.
 pub fn survey_of<'a>(ws: &'a [[u64; 5]], p: Pass, marks: &'a [u8]) -> Survey
     requires { length marks.now ≡ 129 }
-    ensures { (pages : List ℕ) → Told pages (records_of ws.now) p marks.now → p.good ≡ true → result ≡ survey_of (records_of ws.now) }
+    ensures { (pages : List ℕ) → Told pages (records_of ws.now) p marks.now → result ≡ survey_of (records_of ws.now) }
 {
     let free = free_record(ws);
     let backing = lowest_unmarked(marks);

@@ -1,27 +1,29 @@
--- A touch between two lists of ranges, told by the places of the first.
-use Prim.Native.Nat.{ℕ, ◌≤◌, ◌<◌}
-use mathlib.Core.Path.{◌≡◌, sym, ◌∙◌}
-use mathlib.Core.Bool.{Bool}
+-- A touch between two lists of ranges, told by the places of the first: what is left of it from place i on.
+use Prim.Native.Nat.{ℕ, ◌+◌, ◌≤◌, ◌<◌}
+use mathlib.Core.Path.{◌≡◌, refl, sym, ◌∙◌}
+use mathlib.Core.Bool.{Bool, true, false}
 use mathlib.Core.List.{List}
-use native.Mathlib.Omega.{arith}
-use lib.ListN.{length, get_or}
-use Rattle.std.specs.Prelude.{IsTrue, ◌↔◌, is_some}
-use Rattle.lists.specs.Search.{any}
+use lib.ListN.{length, get_or, drop}
+use Rattle.std.specs.Prelude.{is_some}
+use Rattle.lists.specs.Search.{any, any_found, any-on, any-end}
 use Rattle.ranges.specs.declared.Range.{Range}
-use Rattle.ranges.specs.Ranges.{range, share}
-use Rattle.rangelists.specs.Listed.{listed, length-listed, get_d_listed, zero_range, touched_from, touched_from-any}
-use Rattle.rangelists.proofs.Listing.{any-told}
+use Rattle.ranges.specs.Ranges.{share}
+use Rattle.rangelists.specs.Listed.{zero_range, touched_from, touched_from-any}
 use Rattle.rules_table.specs.Good.{lists_touch}
 
-module _ (n : ℕ) (ss ls : List ℕ) (qs : List Range) (hs : n ≤ length ss) (hl : n ≤ length ls) where
+module _ (i : ℕ) (rs qs : List Range) where
   -- the range at place i, searched for in the other list
-  tells : (i : ℕ) → i < n → is_some (touched_from (range (get_or ss i 0) (get_or ls i 0)) 0 qs) ≡ any (share (get_or (listed n ss ls) i zero_range)) qs
-  tells i h = rw (get_d_listed n ss ls hs hl i h) (touched_from-any (range (get_or ss i 0) (get_or ls i 0)) 0 qs)
+  tells : (b : Bool) → is_some (touched_from (get_or rs i zero_range) 0 qs) ≡ b → any (share (get_or rs i zero_range)) qs ≡ b
+  tells b e = sym (touched_from-any (get_or rs i zero_range) 0 qs) ∙ e
 
-  pub touch-told : (b : Bool) → (IsTrue b ↔ ((k : ℕ) × (k < n) × IsTrue (is_some (touched_from (range (get_or ss k 0) (get_or ls k 0)) 0 qs)))) → b ≡ lists_touch (listed n ss ls) qs
+  pub touch_here : i < length rs → is_some (touched_from (get_or rs i zero_range) 0 qs) ≡ true → lists_touch (drop i rs) qs ≡ true
   unfolding lists_touch
-  touch-told b h =
-      any-told (λ r. any (share r) qs) (listed n ss ls) zero_range b (
-        (λ t. let w = h.0 t in (w.0, omega (arith, w.1, length-listed n ss ls hs hl), sym (tells w.0 w.1) ∙ w.2)),
-        (λ w. let k : w.0 < n = omega (arith, w.1, length-listed n ss ls hs hl) in h.1 (w.0, k, tells w.0 k ∙ w.2)),
-      )
+  touch_here h e = sym (any_found (λ r. any (share r) qs) rs i refl zero_range h (tells true e))
+
+  pub touch_on : i < length rs → is_some (touched_from (get_or rs i zero_range) 0 qs) ≡ false → lists_touch (drop i rs) qs ≡ lists_touch (drop (i + 1) rs) qs
+  unfolding lists_touch
+  touch_on h e = sym (any-on (λ r. any (share r) qs) rs i refl zero_range h (tells false e))
+
+  pub touch_none : length rs ≤ i → lists_touch (drop i rs) qs ≡ false
+  unfolding lists_touch
+  touch_none h = sym (any-end (λ r. any (share r) qs) rs i refl h)

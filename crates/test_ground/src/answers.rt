@@ -1,6 +1,6 @@
-// One line for each record, by its operation.
-use program_lines::{hex, number, signed, text, truth, word};
-use rangelists::{Allowed, Reserved};
+// One line for each record, by its operation. A number of 32 bits stands in a word of 64: half 2 k is the low half of word k.
+use program_lines::{half, hex, number, signed, text, truth, word};
+use rangelists::{Allowed, RangeList, Reserved};
 use ranges::Range;
 
 pub fn answer(operation: u32, body: &[u8]) {
@@ -21,11 +21,6 @@ pub fn answer(operation: u32, body: &[u8]) {
         _ => text(b"unknown operation"),
     }
     text(b"\n");
-}
-
-// The lowest 32 bits of such a word.
-fn half(body: &[u8], k: usize) -> u32 {
-    (word(body, k) & 0xFFFF_FFFF) as u32
 }
 
 // So many words from place k on.
@@ -69,9 +64,13 @@ fn fit(body: &[u8]) {
 }
 
 fn multiple(body: &[u8]) {
-    let spot = alignment::lowest_multiple(word(body, 0), word(body, 1));
     text(b"multiple");
-    match spot {
+    found(alignment::lowest_multiple(word(body, 0), word(body, 1)));
+}
+
+// A number that may be missing.
+fn found(x: Option<u64>) {
+    match x {
         None => text(b" none"),
         Some(x) => number(x),
     }
@@ -82,36 +81,33 @@ fn page(body: &[u8]) {
     number(alignment::smallest_page(word(body, 0)));
 }
 
-fn place(f: Option<usize>) {
-    match f {
-        None => text(b" none"),
-        Some(i) => number(i as u64),
+// Behind a range, which is asked of it: a count, N starts and N lasts.
+fn list<const N: usize>(body: &[u8]) -> RangeList<N> {
+    RangeList {
+        count: half(body, 4),
+        starts: words(body, 3),
+        lasts: words(body, N.saturating_add(3)),
     }
 }
 
-// A range, then a count, 4 starts and 4 lasts.
-fn reserved(body: &[u8]) {
-    let l = Reserved {
-        count: half(body, 2),
-        starts: words(body, 3),
-        lasts: words(body, 7),
-    };
-    text(b"reserved");
-    truth(rangelists::reserved_valid(l));
-    place(rangelists::reserved_touched(l, range_at(body, 0)));
+// The place of the first of its ranges that shares an address with the range asked.
+fn touched<const N: usize>(l: &RangeList<N>, body: &[u8]) {
+    found(l.first_touched(range_at(body, 0)).map(|i| i as u64));
 }
 
-// A range, then a count, 8 starts and 8 lasts.
+fn reserved(body: &[u8]) {
+    let l: Reserved = list(body);
+    text(b"reserved");
+    truth(l.is_valid());
+    touched(&l, body);
+}
+
 fn allowed(body: &[u8]) {
-    let l = Allowed {
-        count: half(body, 2),
-        starts: words(body, 3),
-        lasts: words(body, 11),
-    };
+    let l: Allowed = list(body);
     text(b"allowed");
-    truth(rangelists::allowed_valid(l));
-    truth(rangelists::allowed_overlap(l));
-    place(rangelists::allowed_touched(l, range_at(body, 0)));
+    truth(l.is_valid());
+    truth(l.has_overlap());
+    touched(&l, body);
 }
 
 // A u32 request, then the command bytes as lent: the errno as a result.
@@ -137,7 +133,7 @@ fn flags(body: &[u8]) {
 fn bytes(body: &[u8]) {
     let mut b = [0xAAu8; 16];
     wire::write64(&mut b, 1, word(body, 0));
-    wire::write32(&mut b, 11, half(body, 1));
+    wire::write32(&mut b, 11, half(body, 2));
     text(b"bytes ");
     hex(&b);
     number(wire::read64(&b, 1));
@@ -146,7 +142,7 @@ fn bytes(body: &[u8]) {
 
 // Bind's result for an id.
 fn id(body: &[u8]) {
-    let n = (word(body, 0) & 0xFF) as u8;
+    let [n, ..] = word(body, 0).to_le_bytes();
     text(b"id");
     signed(opening::id_result(n));
 }

@@ -1,59 +1,67 @@
 // One call for each record, by its operation: its name, its result, what it wrote.
-use crate::reading::reserved;
+use crate::reading::list;
 use crate::replies::bytes;
 use crate::{reasons, stored};
 use program_lines::{half, number, signed, text, word};
+use rules_calls::Answer;
 use rules_table::Table;
 
 pub fn answer(t: Table, operation: u32, body: &[u8]) -> Table {
-    match operation {
-        1 => fresh(body),
-        2 => bind(t, body),
-        3 => attach(t, body),
-        4 => detach(t, body),
-        5 => reach(t, body),
-        6 | 7 | 13 | 14 | 15 | 16 => command(t, operation, body),
-        8 | 9 => with_area(t, operation, body),
-        10 => stored::mapping(t, body),
-        11 => stored::object(t, body),
-        12 => stored::limit(t, body),
-        17 => reasons::why(t, body),
-        _ => unknown(t),
+    match answered(t, operation, body) {
+        Some(next) => next,
+        None => {
+            text(b"unknown operation");
+            t
+        }
     }
 }
 
-pub fn unknown(t: Table) -> Table {
-    text(b"unknown operation");
-    t
+// None, with nothing written, where there is no such operation, or its body is cut or too long.
+fn answered(t: Table, operation: u32, body: &[u8]) -> Option<Table> {
+    match operation {
+        1 => Some(fresh(body)),
+        2 => Some(bind(t, body)),
+        3 => Some(attach(t, body)),
+        4 => Some(detach(t, body)),
+        5 => Some(reach(t, body)),
+        6 => replied(t, 0x3B81, b"alloc", body),
+        7 => destroy(t, body),
+        8 => allow(t, body),
+        9 => ranges(t, body),
+        10 => Some(stored::mapping(t, body)),
+        11 => Some(stored::object(t, body)),
+        12 => Some(stored::limit(t, body)),
+        13 => replied(t, 0x3B85, b"map", body),
+        14 => replied(t, 0x3B83, b"copy", body),
+        15 => replied(t, 0x3B86, b"unmap", body),
+        16 => replied(t, 0x3B87, b"other", body),
+        17 => reasons::why(t, body),
+        _ => None,
+    }
+}
+
+// The call's name and its result. The table that it leaves.
+fn told(name: &[u8], a: Answer) -> Table {
+    text(name);
+    signed(a.result);
+    a.table
 }
 
 fn fresh(body: &[u8]) -> Table {
-    let a = iommufd::fresh(word(body, 0));
-    text(b"fresh");
-    signed(a.result);
-    a.table
+    told(b"fresh", iommufd::fresh(word(body, 0)))
 }
 
 fn bind(t: Table, body: &[u8]) -> Table {
-    let l = reserved(body, half(body, 2), 2);
-    let a = iommufd::bind(t, word(body, 0), l);
-    text(b"bind");
-    signed(a.result);
-    a.table
+    let l = list(body, half(body, 2), 2);
+    told(b"bind", iommufd::bind(t, word(body, 0), l))
 }
 
 fn attach(t: Table, body: &[u8]) -> Table {
-    let a = iommufd::attach(t, half(body, 0), half(body, 1));
-    text(b"attach");
-    signed(a.result);
-    a.table
+    told(b"attach", iommufd::attach(t, half(body, 0), half(body, 1)))
 }
 
 fn detach(t: Table, body: &[u8]) -> Table {
-    let a = iommufd::detach(t, half(body, 0));
-    text(b"detach");
-    signed(a.result);
-    a.table
+    told(b"detach", iommufd::detach(t, half(body, 0)))
 }
 
 fn reach(t: Table, body: &[u8]) -> Table {
@@ -65,77 +73,46 @@ fn reach(t: Table, body: &[u8]) -> Table {
     t
 }
 
-// The body is the command. It is changed, so it is copied.
-fn command(t: Table, operation: u32, body: &[u8]) -> Table {
-    let mut buffer = [0u8; 64];
-    match copied(body, &mut buffer) {
-        Some(cmd) => command_on(t, operation, cmd),
-        None => unknown(t),
-    }
-}
-
-fn command_on(t: Table, operation: u32, cmd: &mut [u8]) -> Table {
-    match operation {
-        6 => replied(t, 0x3B81, b"alloc", cmd),
-        7 => destroy(t, cmd),
-        13 => replied(t, 0x3B85, b"map", cmd),
-        14 => replied(t, 0x3B83, b"copy", cmd),
-        15 => replied(t, 0x3B86, b"unmap", cmd),
-        16 => replied(t, 0x3B87, b"other", cmd),
-        _ => unknown(t),
-    }
-}
-
-// The result and the command after it.
-fn replied(t: Table, request: u32, name: &[u8], cmd: &mut [u8]) -> Table {
-    let a = iommufd::call(t, request, cmd, &mut []);
-    text(name);
-    signed(a.result);
+// The body is the command. It is changed, so it is copied. The result and the command after it.
+fn replied(t: Table, request: u32, name: &[u8], body: &[u8]) -> Option<Table> {
+    let mut buffer = [0; 64];
+    let cmd = copied(body, &mut buffer)?;
+    let next = told(name, iommufd::call(t, request, cmd, &mut []));
     bytes(cmd);
-    a.table
+    Some(next)
 }
 
-fn destroy(t: Table, cmd: &mut [u8]) -> Table {
-    let a = iommufd::call(t, 0x3B80, cmd, &mut []);
-    text(b"destroy");
-    signed(a.result);
-    a.table
+fn destroy(t: Table, body: &[u8]) -> Option<Table> {
+    let mut buffer = [0; 64];
+    let cmd = copied(body, &mut buffer)?;
+    Some(told(b"destroy", iommufd::call(t, 0x3B80, cmd, &mut [])))
 }
 
-// A u64 count of the command's bytes, the command, then the range area. Both are changed, so both are copied.
-fn with_area(t: Table, operation: u32, body: &[u8]) -> Table {
-    let Some((count, rest)) = body.split_first_chunk() else {
-        return unknown(t);
-    };
-    let Some((head, tail)) = rest.split_at_checked(u64::from_le_bytes(*count) as usize) else {
-        return unknown(t);
-    };
-    let mut cmd = [0u8; 64];
-    let mut area = [0u8; 2048];
-    let (Some(cmd), Some(area)) = (copied(head, &mut cmd), copied(tail, &mut area)) else {
-        return unknown(t);
-    };
-    if operation == 8 {
-        allow(t, cmd, area)
-    } else {
-        ranges(t, cmd, area)
-    }
+fn allow(t: Table, body: &[u8]) -> Option<Table> {
+    let (head, tail) = parts(body)?;
+    let mut buffer = [0; 64];
+    let mut room = [0; 2048];
+    let cmd = copied(head, &mut buffer)?;
+    let area = copied(tail, &mut room)?;
+    Some(told(b"allow", iommufd::call(t, 0x3B82, cmd, area)))
 }
 
-fn allow(t: Table, cmd: &mut [u8], area: &mut [u8]) -> Table {
-    let a = iommufd::call(t, 0x3B82, cmd, area);
-    text(b"allow");
-    signed(a.result);
-    a.table
-}
-
-fn ranges(t: Table, cmd: &mut [u8], area: &mut [u8]) -> Table {
-    let a = iommufd::call(t, 0x3B84, cmd, area);
-    text(b"ranges");
-    signed(a.result);
+fn ranges(t: Table, body: &[u8]) -> Option<Table> {
+    let (head, tail) = parts(body)?;
+    let mut buffer = [0; 64];
+    let mut room = [0; 2048];
+    let cmd = copied(head, &mut buffer)?;
+    let area = copied(tail, &mut room)?;
+    let next = told(b"ranges", iommufd::call(t, 0x3B84, cmd, area));
     bytes(cmd);
     bytes(area);
-    a.table
+    Some(next)
+}
+
+// The command behind a u64 that counts its bytes, then the range area.
+fn parts(body: &[u8]) -> Option<(&[u8], &[u8])> {
+    let (count, rest) = body.split_first_chunk()?;
+    rest.split_at_checked(u64::from_le_bytes(*count) as usize)
 }
 
 // A copy in a buffer, if that has the room.

@@ -1,19 +1,10 @@
 // The ranges of a record's body.
 use program_lines::word;
-use rangelists::{Allowed, Reserved};
+use rangelists::RangeList;
 
-// Four ranges of two words each, from word k on.
-pub fn reserved(body: &[u8], count: u32, k: usize) -> Reserved {
-    Reserved {
-        count,
-        starts: every_second(body, k),
-        lasts: every_second(body, k.saturating_add(1)),
-    }
-}
-
-// Eight ranges of two words each, from word k on.
-pub fn allowed(body: &[u8], count: u32, k: usize) -> Allowed {
-    Allowed {
+// So many ranges as the list has room for, of two words each, from word k on.
+pub fn list<const N: usize>(body: &[u8], count: u32, k: usize) -> RangeList<N> {
+    RangeList {
         count,
         starts: every_second(body, k),
         lasts: every_second(body, k.saturating_add(1)),

@@ -1,12 +1,11 @@
 // Edits of the table past the calls: records stored as they are, for bad tables and for tables with mappings.
-use crate::reading::{allowed, reserved};
+use crate::reading::list;
 use program_lines::{half, text, word};
 use rules_table::{Attachment, Kind, Mapping, Object, Table};
 
 // The numbers of a mapping at a place: six u32, then three u64.
 pub fn mapping(t: Table, body: &[u8]) -> Table {
-    let i = half(body, 0) as usize;
-    let m = Mapping {
+    let mapping = Mapping {
         space: half(body, 1),
         rights: half(body, 2),
         founder: half(body, 3),
@@ -16,11 +15,7 @@ pub fn mapping(t: Table, body: &[u8]) -> Table {
         memory: word(body, 5),
     };
     text(b"mapping");
-    let mut next = t;
-    if let Some(place) = next.mappings.get_mut(i) {
-        *place = m;
-    }
-    next
+    edits::put_mapping(t, half(body, 0) as usize, mapping)
 }
 
 // The fields of an object at a place: the kind and the space of an attached device, the counts of both lists, the bitmap, the ranges.
@@ -28,8 +23,8 @@ pub fn object(t: Table, body: &[u8]) -> Table {
     let object = Object {
         kind: kind_of(half(body, 1), half(body, 2)),
         bitmap: word(body, 3),
-        reserved: reserved(body, half(body, 3), 4),
-        allow: allowed(body, half(body, 4), 12),
+        reserved: list(body, half(body, 3), 4),
+        allow: list(body, half(body, 4), 12),
     };
     text(b"object");
     edits::put_object(t, half(body, 0) as usize, object)

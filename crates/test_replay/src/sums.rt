@@ -1,4 +1,5 @@
 // Two sums over every number of a table, so that a line tells of the whole table and not only of what a call answers.
+use rangelists::RangeList;
 use rules_table::{Attachment, Kind, Mapping, Object, Table};
 
 // 2^32 - 5, a prime.
@@ -47,25 +48,22 @@ impl Sums {
         self.add(space);
     }
 
+    fn add_list<const N: usize>(&mut self, l: &RangeList<N>) {
+        self.add(u64::from(l.count));
+        self.add_all(&l.starts);
+        self.add_all(&l.lasts);
+    }
+
     fn add_object(&mut self, o: &Object) {
         self.add_kind(o.kind);
         self.add(o.bitmap);
-        self.add(u64::from(o.reserved.count));
-        self.add_all(&o.reserved.starts);
-        self.add_all(&o.reserved.lasts);
-        self.add(u64::from(o.allow.count));
-        self.add_all(&o.allow.starts);
-        self.add_all(&o.allow.lasts);
+        self.add_list(&o.reserved);
+        self.add_list(&o.allow);
     }
 
     fn add_mapping(&mut self, m: &Mapping) {
-        self.add(u64::from(m.space));
-        self.add(u64::from(m.rights));
-        self.add(u64::from(m.founder));
-        self.add(u64::from(m.backing));
-        self.add(m.address);
-        self.add(m.length);
-        self.add(m.memory);
+        self.add_all(&[m.space, m.rights, m.founder, m.backing].map(u64::from));
+        self.add_all(&[m.address, m.length, m.memory]);
     }
 }
 

@@ -17,7 +17,7 @@ returns-then-attached_to c = let l = c.loop-i in any_found
     (objects_in c.args.h.now) l.i l.invariant.1 zero_object
     (omega (arith, objects-long c.args.h.now))
     (sym (c.attached_to.ensures ∙ ap (attached_to c.args.s)
-    c.kind_at.ensures) ∙ c.if-attached_to.true)
+    c.kind.ensures) ∙ c.if-attached_to.true)
 
 pub loop-i-preserved : goal.loop-i-preserved
 loop-i-preserved c = (
@@ -27,7 +27,7 @@ loop-i-preserved c = (
       (objects_in c.args.h.now) l.i l.invariant.1 zero_object
       (omega (arith, objects-long c.args.h.now))
       (sym (c.attached_to.ensures ∙ ap (attached_to c.args.s)
-      c.kind_at.ensures) ∙ c.if-attached_to.false),
+      c.kind.ensures) ∙ c.if-attached_to.false),
 )
 
 pub returns : goal.returns

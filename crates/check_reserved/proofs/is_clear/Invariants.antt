@@ -9,4 +9,4 @@ use Rattle.check_reserved.specs.Clear.{clear_by}
 use Rattle.check_reserved.proofs.is_clear.Given as goal
 
 abbrev pub invariant-loop-i : goal.invariant-loop-i
-invariant-loop-i l = clear_by (λ s. reserved_of (drop l.i (objects_in l.h)) s) (records_of l.ws) ≡ all (λ m. when_used (clear_of (reserved_of (objects_in l.h) m.space)) m) (records_of l.ws)
+invariant-loop-i l = clear_by (λ s. reserved_of (drop l.i (objects_in l.h)) s) (records_of l.m.records.now) ≡ all (λ m. when_used (clear_of (reserved_of (objects_in l.h) m.space)) m) (records_of l.m.records.now)

@@ -6,7 +6,7 @@ use Rattle.cmd_map_bytes.proofs.Deciding.{map_fields-are}
 use Rattle.cmd_map_bytes.proofs.map.Goals as goal
 
 pub decide_map-e-requires : goal.decide_map-e-requires
-decide_map-e-requires c = (c.requires.1, c.requires.2, c.requires.3, λ h. omega (arith, c.read32.ensures, c.requires.4 h), c.requires.5)
+decide_map-e-requires c = (c.requires.1, λ h. omega (arith, c.read32.ensures, c.requires.2 h), c.requires.3)
 
 pub write_value-requires : goal.write_value-requires
 write_value-requires c = omega (arith, c.requires.0)

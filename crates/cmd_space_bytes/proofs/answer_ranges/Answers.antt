@@ -1,20 +1,41 @@
--- A refusal, or the reply.
+-- A refusal, or the reply, and 90 after it where some ranges had no room.
+use Rattle.std.specs.Prelude.{◌≡◌, Err}
 use native.Mathlib.Omega.{arith}
 use mathlib.Core.Path.{sym, ap, ◌∙◌}
+use borrow.Author.Rules.{rules}
 use Rattle.rules_table.specs.Spaces.{alignment}
 use Rattle.rules_table.specs.Words.{objects_in}
 use Rattle.table.specs.Paged.{page-known, page-aligned}
-use Rattle.cmd_space_bytes.proofs.Replying.{ranges-known, ranges-room, ranges-refused, ranges-done}
+use Rattle.edits.specs.Settled.{refused-err, refused-ok}
+use Rattle.cmd_space_bytes.proofs.Replying.{refused-same, ranges-known, ranges-room, ranges-refused, ranges-done}
 use Rattle.cmd_space_bytes.proofs.answer_ranges.Goals as goal
 
-pub returns-then-refused-ne0 : goal.returns-then-refused-ne0
-returns-then-refused-ne0 c = λ e. let os = objects_in c.args.h.now in
-    ranges-refused os _ _ _ _ _ c.read32-count.ensures c.read32-zero.ensures (c.ranges_errno-refused.ensures os _ (page-known os _ _ e)) c.if-refused-ne0.true
+pub returns-in_err-ranges_checks : goal.returns-in_err-ranges_checks
+returns-in_err-ranges_checks c = λ e. let os = objects_in c.args.h.now in
+    let r = c.ranges_checks.result in let d = c.from_residual.result in let n = c.in_err-ranges_checks.field-0.0 in
+    let p : r ≡ Err n = search rules in let q : d ≡ Err n = search rules in
+    (search rules, ranges-refused os _ _ _ _ _ c.read32-count.ensures c.read32-zero.ensures (refused-same r d n p q ∙ c.ranges_checks.ensures os _ (page-known os _ _ e)) (refused-err d n q))
 
 pub write_ranges-full-requires : goal.write_ranges-full-requires
-write_ranges-full-requires c = (omega arith, ranges-room _ _ _ _ _ c.ranges_errno-refused.ensures c.if-refused-ne0.false)
+write_ranges-full-requires c = (omega arith, ranges-room _ _ _ _ _ c.ranges_checks.ensures (refused-ok c.ranges_checks.result c.in_ok-ranges_checks.field-0 (search rules)))
+
+pub returns-in_err-refuse_if : goal.returns-in_err-refuse_if
+returns-in_err-refuse_if c = λ e. let os = objects_in c.args.h.now in
+    let r = c.refuse_if.result in let d = c.from_residual-in_err-refuse_if.result in let n = c.in_err-refuse_if.field-0.0 in
+    let p : r ≡ Err n = search rules in let q : d ≡ Err n = search rules in
+    let checks = c.ranges_checks.ensures os _ (page-known os _ _ e) in
+    let passed = refused-ok c.ranges_checks.result c.in_ok-ranges_checks.field-0 (search rules) in (
+      search rules,
+      ranges-done os _ _ _ _ _ _ _ _ _ _ c.read32-space.ensures c.read32-count.ensures c.read32-zero.ensures checks passed
+          (c.write_ranges-full.ensures (page-aligned os _ _ e (ranges-known os _ _ _ _ _ checks passed) ∙ ap (alignment os) (sym c.read32-space.ensures))) (refused-same r d n p q ∙ c.refuse_if.ensures),
+    )
 
 pub returns : goal.returns
 returns c = λ e. let os = objects_in c.args.h.now in
-    ranges-done os _ _ _ _ _ _ _ _ _ _ c.read32-space.ensures c.read32-count.ensures c.read32-zero.ensures (c.ranges_errno-refused.ensures os _ (page-known os _ _ e)) c.if-refused-ne0.false
-    (c.write_ranges-full.ensures (page-aligned os _ _ e (ranges-known os _ _ _ _ _ (c.ranges_errno-refused.ensures os _ (page-known os _ _ e)) c.if-refused-ne0.false) ∙ ap (alignment os) (sym c.read32-space.ensures))) c.refuse_if.ensures
+    let checks = c.ranges_checks.ensures os _ (page-known os _ _ e) in
+    let passed = refused-ok c.ranges_checks.result c.in_ok-ranges_checks.field-0 (search rules) in (
+      c.tell.ensures,
+      ranges-done os _ _ _ _ _ _ _ _ _ _ c.read32-space.ensures c.read32-count.ensures c.read32-zero.ensures checks passed
+          (c.write_ranges-full.ensures (page-aligned os _ _ e (ranges-known os _ _ _ _ _ checks passed) ∙ ap (alignment os) (sym c.read32-space.ensures)))
+          (sym (refused-ok c.refuse_if.result c.in_ok-refuse_if.field-0 (search rules)) ∙ c.refuse_if.ensures),
+    )

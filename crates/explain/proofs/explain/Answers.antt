@@ -1,10 +1,6 @@
 -- With head, words and index made.
 use Rattle.check_table.specs.Known.{table-back}
 use Rattle.explain.proofs.Answering.{explained-back}
-use Rattle.explain.proofs.decide.Reads as decide-reads
-use Rattle.index_make.proofs.make.Reads as make-reads
-use Rattle.layout_mappings.proofs.words_of.Reads as words-of-reads
-use Rattle.layout_objects.proofs.head_of.Reads as head-of-reads
 use Rattle.explain.proofs.explain.Goals as goal
 
 pub returns : goal.returns

@@ -7,7 +7,7 @@ use Rattle.gaps.proofs.Walking.{Walk}
 use Rattle.gaps.proofs.gap_in.Given as goal
 
 abbrev pub invariant-loop-w : goal.invariant-loop-w
-invariant-loop-w l = Walk l.w.alignment l.w.length l.w.low l.s (objects_in l.h) (view (take l.n l.ix) (records_of l.ws)) l.window l.x l.k l.jumps
+invariant-loop-w l = Walk l.w.alignment l.w.length l.w.low l.s (objects_in l.h) (view (take l.m.listed l.m.index.now) (records_of l.m.records.now)) l.window l.x l.k l.jumps
 
 abbrev pub decreases-loop-w : goal.decreases-loop-w
-decreases-loop-w l = (l.n - l.k) + (0x1_0000_0000_0000_0000 - l.x)
+decreases-loop-w l = (l.m.listed - l.k) + (0x1_0000_0000_0000_0000 - l.x)

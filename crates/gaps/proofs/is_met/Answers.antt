@@ -9,8 +9,8 @@ use Rattle.index_search.specs.Indexed.{indexed-length}
 use Rattle.gaps.proofs.Meeting.{met-out, met-in}
 use Rattle.gaps.proofs.is_met.Goals as goal
 
-pub returns-else-k-n : goal.returns-else-k-n
-returns-else-k-n c = le-ltb c.args.k c.args.n (omega arith) ∙ met-out (view (take c.args.n c.args.ix.now) (records_of c.args.ws.now)) c.args.n c.args.k c.args.s c.args.x (indexed-length c.args.n c.args.ix.now c.args.ws.now c.requires) (omega arith)
+pub returns-else-k-m : goal.returns-else-k-m
+returns-else-k-m c = le-ltb c.args.k c.args.m.now.listed (omega arith) ∙ met-out (view (take c.args.m.now.listed c.args.m.now.index.now) (records_of c.args.m.now.records.now)) c.args.m.now.listed c.args.k c.args.s c.args.x (indexed-length c.args.m.now.listed c.args.m.now.index.now c.args.m.now.records.now c.args.m.now.indexed) (omega arith)
 
-pub returns-then-k-n : goal.returns-then-k-n
-returns-then-k-n c = met-in (view (take c.args.n c.args.ix.now) (records_of c.args.ws.now)) c.args.n c.args.k c.args.s c.args.x (indexed-length c.args.n c.args.ix.now c.args.ws.now c.requires) _ c.begins_by.result (omega arith) c.slot_of.ensures.0 c.begins_by.ensures
+pub returns-then-k-m : goal.returns-then-k-m
+returns-then-k-m c = met-in (view (take c.args.m.now.listed c.args.m.now.index.now) (records_of c.args.m.now.records.now)) c.args.m.now.listed c.args.k c.args.s c.args.x (indexed-length c.args.m.now.listed c.args.m.now.index.now c.args.m.now.records.now c.args.m.now.indexed) _ c.begins_by.result (omega arith) c.slot_of.ensures.0 c.begins_by.ensures

@@ -1,10 +1,8 @@
--- After i turns the first i places are done.
-use native.Mathlib.Omega.{arith}
-use Rattle.host_bind.proofs.Trimming.{filled_on, filled_end}
+-- Four numbers, each kept or zero.
+use Rattle.std.proofs.Common.{arith, ◌∙◌, sym}
+use Rattle.std.proofs.lemmas.Grind.{common_steps}
+use Rattle.host_bind.proofs.Trimming.{only_four}
 use Rattle.host_bind.proofs.only_first.Goals as goal
 
-pub loop-i-preserved : goal.loop-i-preserved
-loop-i-preserved c = let l = c.loop-i in filled_on _ _ _ l.i l.invariant _ _ (omega arith) c.kept.ensures (omega arith)
-
 pub returns : goal.returns
-returns c = let l = c.loop-i in filled_end _ _ _ l.i l.invariant (omega arith)
+returns c = grind (arith, common_steps, c.from_fn.ensures.items.each) ∙ sym (only_four c.args.n c.args.xs (omega arith))

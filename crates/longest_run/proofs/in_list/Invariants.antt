@@ -1,7 +1,4 @@
-use Prim.Native.Nat.{◌≤◌}
-use mathlib.Core.Path.{◌≡◌}
-use lib.ListN.{length}
-use Rattle.rangelists.specs.Listed.{listed}
+use Rattle.rangelists.specs.Held.{ranges_of}
 use Rattle.runs.specs.Runs.{in_window}
 use Rattle.rules_table.specs.Words.{objects_in}
 use Rattle.rules_calls.specs.Landing.{blocked_in, lowest_tried}
@@ -10,4 +7,4 @@ use Rattle.longest_run.proofs.Running.{Trying}
 use Rattle.longest_run.proofs.in_list.Given as goal
 
 abbrev pub invariant-loop-i : goal.invariant-loop-i
-invariant-loop-i l = (length l.allow.starts ≡ 8) × (length l.allow.lasts ≡ 8) × (l.n ≤ 8) × Trying (in_window l.a lowest_tried (blocked_in (objects_in l.h) (records_of l.ws) l.s)) (listed l.n l.allow.starts l.allow.lasts) l.initial.best l.best l.i
+invariant-loop-i l = Trying (in_window l.a lowest_tried (blocked_in (objects_in l.h) (records_of l.ws) l.s)) (ranges_of l.windows) l.initial.best l.best l.i

@@ -1,7 +1,4 @@
-use Prim.Native.Nat.{◌≤◌}
-use mathlib.Core.Path.{◌≡◌}
-use lib.ListN.{length}
-use Rattle.rangelists.specs.Listed.{listed}
+use Rattle.rangelists.specs.Held.{ranges_of}
 use Rattle.runs.specs.Runs.{past_range}
 use Rattle.rules_table.specs.Words.{objects_in}
 use Rattle.rules_calls.specs.Landing.{blocked_in, lowest_tried}
@@ -10,4 +7,4 @@ use Rattle.longest_run.proofs.Running.{Trying}
 use Rattle.longest_run.proofs.past_slot.Given as goal
 
 abbrev pub invariant-loop-k : goal.invariant-loop-k
-invariant-loop-k l = (length l.l.starts ≡ 4) × (length l.l.lasts ≡ 4) × (l.n ≤ 4) × Trying (past_range l.a lowest_tried (blocked_in (objects_in l.h) (records_of l.ws) l.s) l.window) (listed l.n l.l.starts l.l.lasts) l.initial.best l.best l.k
+invariant-loop-k l = Trying (past_range l.a lowest_tried (blocked_in (objects_in l.o.head.now) (records_of l.ws) l.s) l.window) (ranges_of l.l) l.initial.best l.best l.k

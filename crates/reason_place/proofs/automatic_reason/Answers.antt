@@ -1,16 +1,26 @@
--- By the errno of the place.
-use mathlib.Core.Path.{ap}
+-- A place, or by its refusal.
+use native.Mathlib.Omega.{arith}
+use mathlib.Core.Path.{refl, ap}
+use Rattle.checks.specs.Refused.{number_of, number-some}
 use Rattle.rules_table.specs.declared.Object.{Object}
 use Rattle.rules_table.specs.Words.{objects_in}
 use Rattle.layout_mappings.specs.Words.{records_of}
-use Rattle.reason_place.proofs.Telling.{by-uneven, by_place, by-nowhere}
+use Rattle.reason_place.proofs.Telling.{invalid, by-uneven, by_place, by-nowhere}
 use Rattle.reason_place.proofs.automatic_reason.Goals as goal
 
-pub returns-then-p-eq22 : goal.returns-then-p-eq22
-returns-then-p-eq22 c = λ ea f. let a = c.args in let os = objects_in a.h.now in let ms = records_of a.ws.now in by-uneven os ms a.t f _ (c.place_automatic-p.ensures c.requires.1 f ea (ap (λ (o : Object). o.allow) c.object_of-o.ensures)).errno c.if-p-eq22.true
+pub returns-in_default : goal.returns-in_default
+returns-in_default c = λ ea f.
+    let at = c.in_default.ensures c.requires.0 f ea (ap (λ (o : Object). o.allow) c.object_of.ensures) in
+    by_place (objects_in c.args.h.now) (records_of c.args.ms.now.records.now) c.args.t f 0 at.errno (λ z. omega (arith, z)) refl
 
-pub returns-then-p-eq0 : goal.returns-then-p-eq0
-returns-then-p-eq0 c = λ ea f. let a = c.args in let os = objects_in a.h.now in let ms = records_of a.ws.now in by_place os ms a.t f _ (c.place_automatic-p.ensures c.requires.1 f ea (ap (λ (o : Object). o.allow) c.object_of-o.ensures)).errno c.if-p-eq22.false c.if-p-eq0.true
+pub returns-in-EINVAL : goal.returns-in-EINVAL
+returns-in-EINVAL c = λ ea f.
+    let at = c.in-Err.ensures c.requires.0 f ea (ap (λ (o : Object). o.allow) c.object_of.ensures) in
+    by-uneven (objects_in c.args.h.now) (records_of c.args.ms.now.records.now) c.args.t f _ at.errno (ap number_of c.in-EINVAL.is)
 
-pub returns : goal.returns
-returns c = λ ea f. let a = c.args in let os = objects_in a.h.now in let ms = records_of a.ws.now in by-nowhere os ms a.t f _ (c.place_automatic-p.ensures c.requires.1 f ea (ap (λ (o : Object). o.allow) c.object_of-o.ensures)).errno c.if-p-eq22.false c.if-p-eq0.false c.requires.2 _ (c.longest.ensures ea (ap (λ (o : Object). o.allow) c.object_of-o.ensures))
+pub returns-in_default-refusal : goal.returns-in_default-refusal
+returns-in_default-refusal c = λ ea f.
+    let same = ap (λ (o : Object). o.allow) c.object_of.ensures in
+    let at = c.in-Err.ensures c.requires.0 f ea same in
+    by-nowhere (objects_in c.args.h.now) (records_of c.args.ms.now.records.now) c.args.t f _ at.errno (λ z. c.in_default-refusal.not-EINVAL (invalid _ z)) (number-some c.in-Err.refusal)
+    c.requires.1 _ (c.longest.ensures ea same)

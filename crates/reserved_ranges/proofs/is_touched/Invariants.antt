@@ -7,5 +7,5 @@ use Rattle.rules_table.specs.Spaces.{reserved_of}
 use Rattle.rules_table.specs.Words.{objects_in}
 use Rattle.reserved_ranges.proofs.is_touched.Given as goal
 
-abbrev pub invariant-loop-i : goal.invariant-loop-i
-invariant-loop-i l = (l.i ≤ 32) × (any (share l.r) (reserved_of (drop l.i (objects_in l.h)) l.s) ≡ any (share l.r) (reserved_of (objects_in l.h) l.s))
+abbrev pub invariant-loop-k : goal.invariant-loop-k
+invariant-loop-k l = (l.k ≤ 32) × (any (share l.r) (reserved_of (drop l.k (objects_in l.h)) l.s) ≡ any (share l.r) (reserved_of (objects_in l.h) l.s))

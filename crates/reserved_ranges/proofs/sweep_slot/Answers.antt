@@ -1,10 +1,15 @@
--- A pass over the list of the slot; none, where it has no list.
-use native.Mathlib.Omega.{arith}
-use Rattle.reserved_ranges.proofs.Reserving.{none_swept, reserving_made, slot-swept}
+-- A pass over the ranges of the slot, of which there are few.
+use Rattle.std.proofs.Common.{ap, subst, length, List, arith}
+use Rattle.ranges.specs.declared.Range.{Range}
+use Rattle.placement.specs.Jumps.{Swept}
+use Rattle.layout_objects.specs.Slots.{object_in}
+use Rattle.reserved_ranges.specs.Gathered.{reserved_for-most}
 use Rattle.reserved_ranges.proofs.sweep_slot.Goals as goal
 
-pub returns-then-not-reserves_in : goal.returns-then-not-reserves_in
-returns-then-not-reserves_in c = none_swept _ _ _ c.reserves_in.ensures c.if-not-reserves_in.true _ _ _ (omega arith)
+pub sweep-requires : goal.sweep-requires
+sweep-requires c =
+    let o = c.args.o.now in
+    omega (arith, ap (λ (rs : List Range). length rs) c.reserved_for.ensures, reserved_for-most c.args.s (object_in o.head.now o.at))
 
 pub returns : goal.returns
-returns c = slot-swept c.args.w.alignment c.args.w.length _ _ _ c.args.from c.sweep.result.spot c.sweep.result.jumps (reserving_made _ _ _ c.reserves_in.ensures c.if-not-reserves_in.false _ c.reserved_at-l.ensures) c.used-n.ensures c.sweep.ensures
+returns c = subst (λ (qs : List Range). Swept c.args.w.alignment c.args.w.length qs c.args.from c.sweep.result.spot c.sweep.result.jumps) c.reserved_for.ensures c.sweep.ensures

@@ -4,13 +4,11 @@ use mathlib.Core.List.{◌++◌, map}
 use lib.ListN.{length, take}
 use Rattle.plan_shape.specs.declared.Section.TheVariants.{Commands}
 use Rattle.plan_shape.specs.Plan.{items_end, orders}
-use Rattle.plan.specs.Running.{request_of, result_of, charge_of, lines_from}
+use Rattle.plan.specs.Running.{kept_of, lines_from}
 use Rattle.plan.proofs.whole.run_all.Given as goal
 
 abbrev pub invariant-loop-k : goal.invariant-loop-k
 invariant-loop-k l = record {
   room : items_end Commands (l.n - l.k) l.s l.at ≤ length l.s;
-  requests : take l.k l.requests ++ map request_of (lines_from l.k l.t (orders (l.n - l.k) l.s l.at)) ≡ map request_of (lines_from 0 l.initial.t (orders l.n l.s l.from));
-  results : take l.k l.results ++ map result_of (lines_from l.k l.t (orders (l.n - l.k) l.s l.at)) ≡ map result_of (lines_from 0 l.initial.t (orders l.n l.s l.from));
-  charges : take l.k l.charges ++ map charge_of (lines_from l.k l.t (orders (l.n - l.k) l.s l.at)) ≡ map charge_of (lines_from 0 l.initial.t (orders l.n l.s l.from));
+  filled : take l.k l.lines ++ map kept_of (lines_from l.k l.t (orders (l.n - l.k) l.s l.at)) ≡ map kept_of (lines_from 0 l.initial.t (orders l.n l.s l.from));
 }

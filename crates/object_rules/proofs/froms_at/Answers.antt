@@ -1,9 +1,0 @@
-use native.Mathlib.Omega.{arith}
-use Prim.Native.Nat.{◌+◌, ◌*◌}
-use Rattle.object_rules.specs.Parts.{froms-part}
-use borrow.Author.Rules.{rules}
-use Rattle.object_rules.proofs.froms_at.Goals as goal
-
-pub returns : goal.returns
-returns c = froms-part c.args.h.now c.args.i c.requires (search rules)
-    (27 * c.args.i + 1 + 11) (27 * c.args.i + 1 + 19) (omega arith) (omega arith)
