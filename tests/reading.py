@@ -139,13 +139,13 @@ def declarations(text):
 
 
 def types(text):
-    """The structs and enums of an .rt file."""
+    """The structs, enums and aliases of an .rt file."""
     out, lines = [], text.split('\n')
     for i, line in enumerate(lines):
-        m = re.match(r'pub (?:struct|enum) (\w+)', line)
+        m = re.match(r'pub (?:struct|enum|type) (\w+)', line)
         if m:
             d = Decl(m[1], i, 0, False, [])
-            while lines[d.last] != '}':
+            while not line.endswith(';') and lines[d.last] != '}':
                 d.last += 1
             d.body, d.lines = '\n'.join(lines[i:d.last + 1]), d.last - i + 1
             out.append(d)
