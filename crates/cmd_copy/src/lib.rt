@@ -13,7 +13,7 @@ ghost use Rattle.edits.specs.Numbers.{copy_number_checks_at, copy_edit_at};
 ghost use Rattle.checks.specs.Refused.{refused};
 ghost use Rattle.edits.specs.Settled.{decided};
 
-use checks::{Errno, refuse_if};
+use checks::{Errno, fail_if};
 use index_search::Mappings;
 use landing::Target;
 use rules_calls::Edit;
@@ -25,16 +25,16 @@ fn check_numbers(target: bool, known: bool, t: Target, from: u64) -> Result<(), 
     ensures { ((os : List Object) (source : ℕ) → target ≡ space_at os t.space → known ≡ space_at os source → refused result ≡ first (copy_number_checks_at os t.flags t.space source t.length t.address from) 0)
         × (refused result ≡ 0 → (target ≡ true) × (known ≡ true)) }
 {
-    refuse_if(opening::has_unknown(t.flags), Errno::EOPNOTSUPP)?;
-    refuse_if(cmd_map::has_no_right(t.flags), Errno::EINVAL)?;
-    refuse_if(cmd_map::is_wrong_length(t.length), Errno::EINVAL)?;
-    refuse_if(ranges::passes_max(from, t.length), Errno::EOVERFLOW)?;
-    refuse_if(
+    fail_if(opening::has_unknown(t.flags), Errno::EOPNOTSUPP)?;
+    fail_if(cmd_map::has_no_right(t.flags), Errno::EINVAL)?;
+    fail_if(cmd_map::is_wrong_length(t.length), Errno::EINVAL)?;
+    fail_if(ranges::passes_max(from, t.length), Errno::EOVERFLOW)?;
+    fail_if(
         cmd_map::fixed_passes(t.flags, t.address, t.length),
         Errno::EOVERFLOW,
     )?;
-    refuse_if(!target, Errno::ENOENT)?;
-    refuse_if(!known, Errno::ENOENT)
+    fail_if(!target, Errno::ENOENT)?;
+    fail_if(!known, Errno::ENOENT)
 }
 
 // The source that was found. The right to write is the founder's, whatever the source itself may do.
@@ -43,7 +43,7 @@ fn source_in(flags: u32, o: Option<Mapping>) -> Result<Mapping, Errno>
     ensures { (refused result ≡ first (source_checks flags o) 0) × ((m : Mapping) → result ≡ Ok m → m ≡ source_mapping o) }
 {
     let m = o.ok_or(Errno::ENOENT)?;
-    refuse_if(opening::is_writeable(flags) && m.founder != 1, Errno::EPERM)?;
+    fail_if(opening::is_writeable(flags) && m.founder != 1, Errno::EPERM)?;
     Ok(m)
 }
 
@@ -52,7 +52,7 @@ fn source_in(flags: u32, o: Option<Mapping>) -> Result<Mapping, Errno>
 fn check_record(free: Option<usize>) -> Result<(), Errno>
     ensures { refused result ≡ first (record_checks free) 0 }
 {
-    refuse_if(free.is_none(), Errno::ENOMEM)
+    fail_if(free.is_none(), Errno::ENOMEM)
 }
 
 // The mapping that a COPY of m makes, at an address.

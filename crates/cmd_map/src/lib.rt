@@ -19,7 +19,7 @@ ghost use Rattle.rules_calls.specs.Map.{rights_of, mapped, no_right, wrong_lengt
 ghost use Rattle.edits.specs.Numbers.{map_number_checks_at, map_edit_at};
 
 use check_mappings::Pass;
-use checks::{Errno, refuse_if};
+use checks::{Errno, fail_if};
 use index_search::Mappings;
 use landing::Target;
 use rules_calls::{Change, Edit};
@@ -104,15 +104,15 @@ pub fn place_in(h: &[u64; 865], ms: &Mappings, a: u64, t: Target) -> Result<u64,
 fn check_numbers(known: bool, t: Target, zero: u32, memory: u64) -> Result<(), Errno>
     ensures { (os : List Object) → known ≡ space_at os t.space → refused result ≡ first (map_number_checks_at os t.flags t.space zero memory t.length t.address) 0 }
 {
-    refuse_if(
+    fail_if(
         opening::has_unknown(t.flags) || zero != 0,
         Errno::EOPNOTSUPP,
     )?;
-    refuse_if(has_no_right(t.flags), Errno::EINVAL)?;
-    refuse_if(is_wrong_length(t.length), Errno::EINVAL)?;
-    refuse_if(ranges::passes_max(memory, t.length), Errno::EOVERFLOW)?;
-    refuse_if(fixed_passes(t.flags, t.address, t.length), Errno::EOVERFLOW)?;
-    refuse_if(!known, Errno::ENOENT)
+    fail_if(has_no_right(t.flags), Errno::EINVAL)?;
+    fail_if(is_wrong_length(t.length), Errno::EINVAL)?;
+    fail_if(ranges::passes_max(memory, t.length), Errno::EOVERFLOW)?;
+    fail_if(fixed_passes(t.flags, t.address, t.length), Errno::EOVERFLOW)?;
+    fail_if(!known, Errno::ENOENT)
 }
 
 // Whether so many pages more would pass the limit. No sum is made.
@@ -133,8 +133,8 @@ pub fn over_limit(limit: u64, charge: u64, pages: u64) -> bool
 fn check_room(free: Option<usize>, limit: u64, charge: u64, pages: u64) -> Result<(), Errno>
     ensures { refused result ≡ first (room_checks free limit charge pages) 0 }
 {
-    refuse_if(free.is_none(), Errno::ENOMEM)?;
-    refuse_if(over_limit(limit, charge, pages), Errno::ENOMEM)
+    fail_if(free.is_none(), Errno::ENOMEM)?;
+    fail_if(over_limit(limit, charge, pages), Errno::ENOMEM)
 }
 
 // The mapping that a MAP founds, at an address.

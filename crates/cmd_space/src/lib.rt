@@ -13,7 +13,7 @@ ghost use Rattle.edits.specs.Numbers.{allow_number_checks_at, allow_edit_at, ran
 ghost use Rattle.checks.specs.Refused.{refused};
 ghost use Rattle.edits.specs.Settled.{decided};
 
-use checks::{Errno, refuse_if};
+use checks::{Errno, fail_if};
 use rangelists::Allowed;
 use rules_calls::{Change, Edit};
 use rules_table::{Kind, Object};
@@ -23,7 +23,7 @@ use rules_table::{Kind, Object};
 fn alloc(free: Option<usize>, flags: u32) -> Result<Edit, Errno>
     ensures { (os : List Object) → length os ≡ 32 → free ≡ free_record os → decided result ≡ alloc_edit os flags }
 {
-    refuse_if(flags != 0, Errno::EOPNOTSUPP)?;
+    fail_if(flags != 0, Errno::EOPNOTSUPP)?;
     Ok(edits::add_new(free, edits::new_space()))
 }
 
@@ -48,8 +48,8 @@ fn removal_of(k: Kind, i: usize) -> Change
 fn destroy(o: Object, held: bool, id: u32) -> Result<Edit, Errno>
     ensures { (os : List Object) → o ≡ object_at os id → held ≡ any (λ x. attached_to id x.kind) os → decided result ≡ destroy_edit os id }
 {
-    refuse_if(table::is_free(o.kind), Errno::ENOENT)?;
-    refuse_if(table::is_attached(o.kind) || held, Errno::EBUSY)?;
+    fail_if(table::is_free(o.kind), Errno::ENOENT)?;
+    fail_if(table::is_attached(o.kind) || held, Errno::EBUSY)?;
     let change = removal_of(o.kind, edits::slot_of(id));
     Ok(edits::acceptance(0, change, edits::free_object()))
 }
@@ -105,19 +105,19 @@ fn with_allow(o: Object, l: Allowed) -> Object
 fn number_checks(known: bool, count: u32, zero: u32, room: usize) -> Result<(), Errno>
     ensures { (os : List Object) (space : ℕ) → known ≡ space_at os space → refused result ≡ first (allow_number_checks_at os space count zero room) 0 }
 {
-    refuse_if(zero != 0, Errno::EOPNOTSUPP)?;
-    refuse_if(!known, Errno::ENOENT)?;
-    refuse_if(8 < count, Errno::ENOMEM)?;
-    refuse_if(room < 16 * (count as usize), Errno::EFAULT)
+    fail_if(zero != 0, Errno::EOPNOTSUPP)?;
+    fail_if(!known, Errno::ENOENT)?;
+    fail_if(8 < count, Errno::ENOMEM)?;
+    fail_if(room < 16 * (count as usize), Errno::EFAULT)
 }
 
 #[tactic(auto, unfolding(lists::specs::Checks::first, rules_calls::specs::Allow::list_checks))]
 fn list_checks(h: &[u64; 865], space: u32, l: Allowed) -> Result<(), Errno>
     ensures { refused result ≡ first (list_checks (objects_in h.now) space l) 0 }
 {
-    refuse_if(!l.is_valid() || l.has_overlap(), Errno::EINVAL)?;
+    fail_if(!l.is_valid() || l.has_overlap(), Errno::EINVAL)?;
     let touches = reserved_ranges::list_touched(h, space, l);
-    refuse_if(touches, Errno::EADDRINUSE)
+    fail_if(touches, Errno::EADDRINUSE)
 }
 
 // The new allow list, or why it is not taken: the numbers of the command first, then the list in its area.
@@ -155,7 +155,7 @@ pub fn decide_allow<'a>(
 pub fn ranges_checks(known: bool, count: u32, zero: u32, room: usize) -> Result<(), Errno>
     ensures { (os : List Object) (space : ℕ) → known ≡ space_at os space → refused result ≡ first (ranges_checks_at os space count zero room) 0 }
 {
-    refuse_if(zero != 0, Errno::EOPNOTSUPP)?;
-    refuse_if(!known, Errno::ENOENT)?;
-    refuse_if(room < 16 * (count as usize), Errno::EFAULT)
+    fail_if(zero != 0, Errno::EOPNOTSUPP)?;
+    fail_if(!known, Errno::ENOENT)?;
+    fail_if(room < 16 * (count as usize), Errno::EFAULT)
 }

@@ -15,7 +15,7 @@ ghost use Rattle.edits.specs.Numbers.{allow_edit_at};
 ghost use Rattle.checks.specs.Refused.{refused};
 ghost use Rattle.edits.specs.Settled.{decided};
 
-use checks::{Errno, refuse_if};
+use checks::{Errno, fail_if};
 use rules_calls::Edit;
 use rules_table::Object;
 
@@ -83,7 +83,7 @@ fn answer_ranges(h: &[u64; 865], a: u64, cmd: &mut [u8], area: &mut [u8]) -> Res
     let zero = wire::read32(cmd, 12);
     cmd_space::ranges_checks(a != 0, count, zero, area.len())?;
     let full = write_ranges(h, a, space, count, cmd, area);
-    refuse_if((count as usize) < full, Errno::EMSGSIZE)?;
+    fail_if((count as usize) < full, Errno::EMSGSIZE)?;
     Ok(edits::tell(0))
 }
 

@@ -13,7 +13,7 @@ ghost use Rattle.edits.specs.Numbers.{unmap_number_checks_at, unmap_edit_at};
 ghost use Rattle.checks.specs.Refused.{refused};
 ghost use Rattle.edits.specs.Settled.{decided};
 
-use checks::{Errno, refuse_if};
+use checks::{Errno, fail_if};
 use index_search::Mappings;
 use ranges::Range;
 use rules_calls::{Change, Edit};
@@ -41,9 +41,9 @@ fn range_asked(a: u64, n: u64) -> Range
 fn check_numbers(known: bool, a: u64, n: u64) -> Result<(), Errno>
     ensures { (os : List Object) (s : ℕ) → known ≡ space_at os s → refused result ≡ first (unmap_number_checks_at os s a n) 0 }
 {
-    refuse_if(n == 0, Errno::EINVAL)?;
-    refuse_if(ranges::passes_max(a, n), Errno::EOVERFLOW)?;
-    refuse_if(!known, Errno::ENOENT)
+    fail_if(n == 0, Errno::EINVAL)?;
+    fail_if(ranges::passes_max(a, n), Errno::EOVERFLOW)?;
+    fail_if(!known, Errno::ENOENT)
 }
 
 // Whether a mapping is cut, then whether some mapping goes.
@@ -51,8 +51,8 @@ fn check_numbers(known: bool, a: u64, n: u64) -> Result<(), Errno>
 fn check_removal(all: bool, cut: bool, some: bool) -> Result<(), Errno>
     ensures { refused result ≡ first (removal_by all cut some) 0 }
 {
-    refuse_if(cut, Errno::ENOENT)?;
-    refuse_if(!all && !some, Errno::ENOENT)
+    fail_if(cut, Errno::ENOENT)?;
+    fail_if(!all && !some, Errno::ENOENT)
 }
 
 // The edit, or the first check that fires: the numbers of the command, then what a removal finds.

@@ -1,5 +1,4 @@
--- The rules of five commands by the numbers of their fields, as the laws and the code hold them: each is the rule on the record of these numbers. And what a search found, as
--- the code's enum has it.
+-- The rules of five commands by the numbers of their fields, as the laws and the code hold them: each is the rule on the record of these numbers.
 use Rattle.std.specs.Prelude.{ℕ, ◌≤◌, List}
 use Rattle.std.proofs.Common.{arith}
 use Rattle.lists.specs.Tests.{by-test}

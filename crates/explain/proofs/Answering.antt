@@ -10,7 +10,8 @@ use Rattle.rules_table.specs.declared.Mapping.{Mapping}
 use Rattle.rules_table.specs.declared.Table.{Table}
 use Rattle.rules_table.specs.Good.{good}
 use Rattle.rules_calls.specs.declared.Command.{Command}
-use Rattle.rules_calls.specs.Requests.{lookup}
+use Rattle.rules_calls.specs.Requests.{lookup, row_of}
+use Rattle.opening.specs.Opened.{row_none, row_command}
 use Rattle.rules_index.specs.Index.{agrees}
 use Rattle.rules_index.specs.Board.{Board, good_board}
 use Rattle.rules_reasons.specs.declared.Reason.{Reason}
@@ -35,17 +36,17 @@ module _ (b : Board) (request : ℕ) (bytes : List ℕ) where
   unfolding board_explained explained_by
   by-bad g = record { answer = rw g; short = omega arith }
 
-  module _ (g : good_board b ≡ true) (row : Option Command) (er : row ≡ lookup request) where
+  module _ (g : good_board b ≡ true) (row : Option (Command × ℕ)) (er : row ≡ row_of (lookup request)) where
     -- 25
     pub by-unlisted : row ≡ None → Answered (board_explained b request bytes) (Err 25)
     unfolding board_explained explained_by
-    by-unlisted u = let l : lookup request ≡ None = sym er ∙ u in record { answer = rw (g, l); short = omega arith }
+    by-unlisted u = let l : lookup request ≡ None = row_none request (sym er ∙ u) in record { answer = rw (g, l); short = omega arith }
 
     -- the command
-    pub by-listed : (u : Table) → u ≡ b.table → (c : Command) → row ≡ Some c → (e : Explained) → Answered (row_told (Some c) u bytes) e → Answered (board_explained b request bytes) e
+    pub by-listed : (u : Table) → u ≡ b.table → (c : Command) (known : ℕ) → row ≡ Some (c, known) → (e : Explained) → Answered (row_told (Some c) u bytes) e → Answered (board_explained b request bytes) e
     unfolding board_explained explained_by
-    by-listed u q c f e h =
-        let l : lookup request ≡ Some c = sym er ∙ f in
+    by-listed u q c known f e h =
+        let l : lookup request ≡ Some c = row_command request c known (sym er ∙ f) in
         record {
           answer = h.answer ∙ ap (λ (t : Table). row_told (Some c) t bytes) q ∙ sym (rw (g, l));
           short = h.short;

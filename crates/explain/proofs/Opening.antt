@@ -18,8 +18,9 @@ use Rattle.landing.specs.declared.Target.{Target}
 use Rattle.rules_calls.specs.declared.Command.{Command}
 use Rattle.rules_calls.specs.Opening.{Opening}
 use Rattle.rules_calls.specs.declared.Unopened.TheVariants.{NoSizeField, SizeTooSmall, SizePastBytes, TailNotZero}
-use Rattle.rules_calls.specs.Requests.{request_of, lookup}
+use Rattle.rules_calls.specs.Requests.{request_of, lookup, row_of}
 use Rattle.rules_calls.specs.Opening.{size_field, size_checks, open_checks, open_row, opened}
+use Rattle.opening.specs.Opened.{row_command}
 use Rattle.rules_reasons.specs.declared.Reason.{Reason}
 use Rattle.rules_reasons.specs.declared.Reason.TheVariants as reason
 use Rattle.rules_reasons.specs.Reasons.{named, open_names, map_reason, copy_reason}
@@ -48,11 +49,11 @@ module _ (c : Command) where
       (ap (λ (q : Opening). opening_reason q) (first-nil (Ok c)) ∙ sym (first-nil reason.Accepted)))))
 
   -- what the code finds of a listed request
-  pub opened-is : (request : ℕ) (bytes : List ℕ) (row : Option Command) (o : Opening) (r : Reason) → row ≡ lookup request → row ≡ Some c → o ≡ opened request bytes → r ≡ opening_reason o
+  pub opened-is : (request : ℕ) (bytes : List ℕ) (row : Option (Command × ℕ)) (known : ℕ) (o : Opening) (r : Reason) → row ≡ row_of (lookup request) → row ≡ Some (c, known) → o ≡ opened request bytes → r ≡ opening_reason o
       → r ≡ open_or (request_of c).size bytes reason.Accepted
   unfolding opened
-  opened-is request bytes row o r e f g k =
-      k ∙ ap (λ (q : Opening). opening_reason q) (g ∙ ap (λ (q : Option Command). open_row q bytes) (sym e ∙ f)) ∙ named-is (request_of c).size bytes
+  opened-is request bytes row known o r e f g k =
+      k ∙ ap (λ (q : Opening). opening_reason q) (g ∙ ap (λ (q : Option Command). open_row q bytes) (row_command request c known (sym e ∙ f))) ∙ named-is (request_of c).size bytes
 
 module _ (known : ℕ) (bytes : List ℕ) where
   abbrev checks : List (Check Reason)

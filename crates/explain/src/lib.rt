@@ -119,7 +119,7 @@ pub fn decide<'a>(
     let Some(found) = check_table::check(h, ws, ix, &mut pages, &mut marks) else {
         return Err(117);
     };
-    let Some(c) = opening::look_up(request) else {
+    let Some((c, _)) = opening::look_up(request) else {
         return Err(25);
     };
     let good = GoodTable {

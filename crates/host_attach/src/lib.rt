@@ -12,7 +12,7 @@ ghost use Rattle.host_attach.specs.Attached.{attach_kinds, attach_fits};
 ghost use Rattle.checks.specs.Refused.{refused};
 ghost use Rattle.edits.specs.Settled.{decided};
 
-use checks::{Errno, refuse_if};
+use checks::{Errno, fail_if};
 use index_search::Mappings;
 use rules_calls::{Change, Edit};
 use rules_table::{Attachment, Kind, Mapping, Object};
@@ -42,9 +42,9 @@ fn some_misfit(ws: &[[u64; 5]], s: u32, a: u64) -> bool
 fn kind_checks(o: Object, h: Object) -> Result<(), Errno>
     ensures { refused result ≡ first (attach_kinds o h) 0 }
 {
-    refuse_if(!table::is_device(o.kind), Errno::ENOENT)?;
-    refuse_if(!table::is_space(h.kind), Errno::ENOENT)?;
-    refuse_if(table::is_attached(o.kind), Errno::EBUSY)
+    fail_if(!table::is_device(o.kind), Errno::ENOENT)?;
+    fail_if(!table::is_space(h.kind), Errno::ENOENT)?;
+    fail_if(table::is_attached(o.kind), Errno::EBUSY)
 }
 
 // What stands in space s, of alignment a: its mappings and its allow list against the reserved ranges, its mappings against the alignment.
@@ -53,10 +53,10 @@ fn fit_checks(o: Object, h: Object, a: u64, ms: &Mappings, s: u32) -> Result<(),
 {
     let blocked = check_reserved::list_struck(&o.reserved.in_use(), ms, s)
         || table::lists_touch(o.reserved, h.allow);
-    refuse_if(blocked, Errno::EADDRINUSE)?;
+    fail_if(blocked, Errno::EADDRINUSE)?;
     let page = alignment::smallest_page(o.bitmap);
     let higher = page.max(a);
-    refuse_if(some_misfit(ms.records, s, higher), Errno::EADDRINUSE)
+    fail_if(some_misfit(ms.records, s, higher), Errno::EADDRINUSE)
 }
 
 #[tactic(auto, unfolding(rules_calls::specs::Attach::attached_object))]

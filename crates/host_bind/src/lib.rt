@@ -10,7 +10,7 @@ ghost use Rattle.rules_calls.specs.Bind.{only_first, trimmed, new_device, bind_e
 ghost use Rattle.checks.specs.Refused.{refused};
 ghost use Rattle.edits.specs.Settled.{decided};
 
-use checks::{Errno, refuse_if};
+use checks::{Errno, fail_if};
 use rangelists::{RangeList, Reserved};
 use rules_calls::Edit;
 use rules_table::{Attachment, Kind, Object};
@@ -20,9 +20,9 @@ fn bind_checks(bitmap: u64, l: Reserved) -> Result<(), Errno>
     ensures { refused result ≡ first (bind_checks bitmap l) 0 }
 {
     let page = alignment::smallest_page(bitmap);
-    refuse_if(bitmap == 0 || 4096 < page, Errno::EINVAL)?;
-    refuse_if(4 < l.count, Errno::EINVAL)?;
-    refuse_if(!l.is_valid(), Errno::EINVAL)
+    fail_if(bitmap == 0 || 4096 < page, Errno::EINVAL)?;
+    fail_if(4 < l.count, Errno::EINVAL)?;
+    fail_if(!l.is_valid(), Errno::EINVAL)
 }
 
 // The numbers of a list whose first n places are in use, with zero in the others.

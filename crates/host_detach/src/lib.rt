@@ -8,7 +8,7 @@ ghost use Rattle.rules_calls.specs.Attach.{loose_object, detach_checks, detach_e
 ghost use Rattle.checks.specs.Refused.{refused};
 ghost use Rattle.edits.specs.Settled.{decided};
 
-use checks::{Errno, refuse_if};
+use checks::{Errno, fail_if};
 use rules_calls::{Change, Edit};
 use rules_table::{Attachment, Kind, Object};
 
@@ -16,8 +16,8 @@ use rules_table::{Attachment, Kind, Object};
 fn detach_checks(o: Object) -> Result<(), Errno>
     ensures { refused result ≡ first (detach_checks o) 0 }
 {
-    refuse_if(!table::is_device(o.kind), Errno::ENOENT)?;
-    refuse_if(!table::is_attached(o.kind), Errno::EINVAL)
+    fail_if(!table::is_device(o.kind), Errno::ENOENT)?;
+    fail_if(!table::is_attached(o.kind), Errno::EINVAL)
 }
 
 #[tactic(auto, unfolding(rules_calls::specs::Attach::loose_object))]

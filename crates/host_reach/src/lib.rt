@@ -14,7 +14,7 @@ ghost use Rattle.host_reach.specs.Held.{reach_in};
 ghost use Rattle.checks.specs.Refused.{refused};
 ghost use Rattle.edits.specs.Settled.{decided};
 
-use checks::{Errno, refuse_if};
+use checks::{Errno, fail_if};
 use index_search::Mappings;
 use rules_calls::Edit;
 use rules_table::{Kind, Mapping, Object};
@@ -36,7 +36,7 @@ fn reach_in(m: Mapping, a: u64, write: bool) -> Result<Edit, Errno>
     requires { (m.address ≤ a) × (m.memory + (a - m.address) ≤ U64MAX) }
     ensures { decided result ≡ reach_in a write (Some m) }
 {
-    refuse_if(!may_do(write, m), Errno::EPERM)?;
+    fail_if(!may_do(write, m), Errno::EPERM)?;
     Ok(edits::tell(m.memory + (a - m.address)))
 }
 
@@ -44,10 +44,10 @@ fn reach_in(m: Mapping, a: u64, write: bool) -> Result<Edit, Errno>
 fn reach_checks(k: Kind, a: u64, n: u64) -> Result<(), Errno>
     ensures { refused result ≡ first (reach_checks k a n) 0 }
 {
-    refuse_if(!table::is_device(k), Errno::ENOENT)?;
-    refuse_if(!table::is_attached(k), Errno::EINVAL)?;
-    refuse_if(n == 0, Errno::EINVAL)?;
-    refuse_if(ranges::passes_max(a, n), Errno::EOVERFLOW)
+    fail_if(!table::is_device(k), Errno::ENOENT)?;
+    fail_if(!table::is_attached(k), Errno::EINVAL)?;
+    fail_if(n == 0, Errno::EINVAL)?;
+    fail_if(ranges::passes_max(a, n), Errno::EOVERFLOW)
 }
 
 // What reach tells, or why it does not.

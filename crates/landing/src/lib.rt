@@ -19,7 +19,7 @@ ghost use Rattle.rules_calls.specs.Landing.{blocked_in, taken, fixed_checks};
 ghost use Rattle.checks.specs.Refused.{refused};
 ghost use Rattle.landing.specs.Placing.{Placed, placing_of, AutomaticPlaced};
 
-use checks::{Errno, refuse_if};
+use checks::{Errno, fail_if};
 use index_search::Mappings;
 use placement::{Search, Want};
 use rangelists::Allowed;
@@ -44,9 +44,9 @@ fn check_fixed(a: u64, n: u64, x: u64, reserved: bool, mapped: bool) -> Result<(
     ensures { (os : List Object) (s : ℕ) → a ≡ alignment os s → reserved ≡ any (share (span x n)) (reserved_of os s)
         → refused result ≡ first (fixed_checks os s n x mapped) 0 }
 {
-    refuse_if(!alignment::is_fit(a, x, n), Errno::EINVAL)?;
-    refuse_if(reserved, Errno::EINVAL)?;
-    refuse_if(mapped, Errno::EEXIST)
+    fail_if(!alignment::is_fit(a, x, n), Errno::EINVAL)?;
+    fail_if(reserved, Errno::EINVAL)?;
+    fail_if(mapped, Errno::EEXIST)
 }
 
 // What was found, as an address or a refusal.

@@ -3,7 +3,7 @@
 #![tactic(auto)]
 
 ghost use Rattle.std.specs.Prelude.{◌≡◌};
-ghost use Rattle.rules_table.specs.Layout.{kind_of, tag_of, encoded};
+ghost use Rattle.rules_table.specs.Layout.{kind_of, tag_of, decoded, encoded};
 ghost use Rattle.rules_table.specs.Words.{low, high};
 
 use rangelists::{Allowed, Reserved};
@@ -43,6 +43,34 @@ fn tag_of(k: Kind) -> u32
         Kind::Space => 1,
         Kind::Device(Attachment::Loose) => 2,
         Kind::Device(Attachment::Attached(_)) => 3,
+    }
+}
+
+// An object of any numbers, which need not lie in a head.
+#[tactic(auto, unfolding(rules_table::specs::Layout::decoded))]
+pub fn decode(r: RawObject) -> Object
+    ensures { result ≡ decoded r }
+{
+    let RawObject {
+        starts,
+        lasts,
+        froms,
+        ends,
+        ..
+    } = r;
+    Object {
+        kind: kind_of(r.kind, r.home),
+        bitmap: r.bitmap,
+        reserved: Reserved {
+            count: r.reserves,
+            starts,
+            lasts,
+        },
+        allow: Allowed {
+            count: r.allows,
+            starts: froms,
+            lasts: ends,
+        },
     }
 }
 

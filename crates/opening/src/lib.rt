@@ -2,30 +2,30 @@
 #![tactic(auto)]
 
 ghost use Rattle.std.specs.Prelude.{◌≡◌, ◌≤◌, pos, length, Some, Err};
-ghost use Rattle.rules_calls.specs.Requests.{request_of, lookup};
+ghost use Rattle.rules_calls.specs.Requests.{request_of, lookup, row_of};
 ghost use Rattle.rules_calls.specs.Opening.{tail, open_row, opened, opening_errno};
 ghost use Rattle.rules_table.specs.Flags.{bit, unknown};
 ghost use Rattle.rules_calls.specs.Results.{signed_result};
 
 use rules_calls::{Command, Unopened};
 
-// The table of requests: the command of a number.
-pub fn look_up(request: u32) -> Option<Command>
-    ensures { result ≡ lookup request }
+// The table of requests: the command of a number, and the bytes of its fields.
+pub fn look_up(request: u32) -> Option<(Command, usize)>
+    ensures { result ≡ row_of (lookup request) }
 {
     match request {
-        0x3B80 => Some(Command::Destroy),
-        0x3B81 => Some(Command::IoasAlloc),
-        0x3B82 => Some(Command::AllowIovas),
-        0x3B83 => Some(Command::Copy),
-        0x3B84 => Some(Command::IovaRanges),
-        0x3B85 => Some(Command::Map),
-        0x3B86 => Some(Command::Unmap),
+        0x3B80 => Some((Command::Destroy, 8)),
+        0x3B81 => Some((Command::IoasAlloc, 12)),
+        0x3B82 => Some((Command::AllowIovas, 24)),
+        0x3B83 => Some((Command::Copy, 40)),
+        0x3B84 => Some((Command::IovaRanges, 32)),
+        0x3B85 => Some((Command::Map, 40)),
+        0x3B86 => Some((Command::Unmap, 24)),
         _ => None,
     }
 }
 
-// The bytes of its fields.
+// The bytes of a command's fields.
 pub fn known_size(command: Command) -> usize
     ensures { result ≡ (request_of command).size }
 {
@@ -49,10 +49,10 @@ pub fn unknown_tail<'a>(cmd: &'a [u8], known: usize, size: usize) -> &'a [u8]
 }
 
 // The checks of a listed request, in order.
-fn open_listed(command: Command, cmd: &[u8]) -> Result<Command, Unopened>
+fn open_listed(command: Command, known: usize, cmd: &[u8]) -> Result<Command, Unopened>
+    requires { known ≡ (request_of command).size }
     ensures { result ≡ open_row (Some command) cmd.now }
 {
-    let known = known_size(command);
     if cmd.len() < 4 {
         return Err(Unopened::NoSizeField);
     }
@@ -73,10 +73,10 @@ fn open_listed(command: Command, cmd: &[u8]) -> Result<Command, Unopened>
 pub fn open(request: u32, cmd: &[u8]) -> Result<Command, Unopened>
     ensures { result ≡ opened request cmd.now }
 {
-    let Some(command) = look_up(request) else {
+    let Some((command, known)) = look_up(request) else {
         return Err(Unopened::UnknownRequest);
     };
-    open_listed(command, cmd)
+    open_listed(command, known, cmd)
 }
 
 // The errno of a command that is not opened.

@@ -1,22 +1,23 @@
 -- Jumps, one after another: the tests of one range, a pass over all of them, and how many ranges are left behind.
-use Prim.Native.Nat.{ℕ, zero, suc, ◌+◌, ◌≤◌, ◌<◌, zero-le}
+use Prim.Native.Nat.{ℕ, zero, suc, ◌+◌, ◌-◌, ◌≤◌, ◌<◌, zero-le, min}
 use Rattle.std.proofs.Math.Path.{◌≡◌, sym, subst}
-use Rattle.std.specs.Prelude.{refl, Bool, not, ltb, eqb, length, get_or, drop, Option, None, Some}
+use Rattle.std.specs.Prelude.{refl, Bool, not, ◌&&◌, ltb, eqb, length, get_or, drop, Option, None, Some}
 use Rattle.std.proofs.Common.{ap, ◌∙◌, le_of_suc-le-suc, not-suc-le-zero, arith}
 use Rattle.std.proofs.Math.Bool.{true, false}
 use mathlib.Core.List.{List, [], ◌∷◌}
 use Rattle.std.proofs.Math.Dec.{leb}
 use borrow.Author.Tests.{leb-true, le-leb, lt-leb, le-ltb, ltb-true, ltb-false, eq-eqb, ne_eqb, not-true, not-false}
-use Rattle.lists.specs.Tests.{by-test, and_not_right, only_if, only_if-mono}
+use Rattle.lists.specs.Tests.{by-test, same_test, and_left, and_right, and_both, and_not_right, only_if, only_if-mono}
 use Rattle.lists.specs.Search.{any, any-false_at, any-on, any-end}
 use Rattle.lists.specs.Each.{Each-of}
 use Rattle.lists.specs.Sums.{sum_of, sum_of-le, count_of, count_of-length}
 use Rattle.ranges.specs.declared.Range.{Range}
-use Rattle.ranges.specs.Ranges.{U64MAX, share, passes-false, span}
+use Rattle.ranges.specs.Ranges.{U64MAX, share, inside, passes, passes-false, last_of, span}
+use Rattle.ranges.proofs.Spans.{last_of-fits}
 use Rattle.alignment.specs.Multiples.{multiple, round_up, Lowest, MultipleFrom, lowest_multiple, lowest-is}
 use Rattle.rangelists.specs.Listed.{zero_range}
 use Rattle.placement.specs.Lowest.{touch_reaches, touch_ends}
-use Rattle.placement.specs.Jumps.{past_of, jumps_to, ending, Free, Onward, Never, Swept}
+use Rattle.placement.specs.Jumps.{past_of, jumps_to, ending, Free, Onward, Never, Swept, room_at, lower_of}
 
 -- ---- a number from 2^64 on has no multiple below 2^64
 
@@ -25,7 +26,7 @@ unfolding lowest_multiple round_up
 lowest_none a x h =
     rw (and_not_right (multiple a (round_up a x)) (ltb (round_up a x) 0x1_0000_0000_0000_0000) (le-ltb (round_up a x) 0x1_0000_0000_0000_0000 (omega arith)))
 
--- ---- the branches of `past` and `jumps_to`
+-- ---- the branches of `past` and `jumps_to`, whether there is room, and the lower of two places
 
 module _ (a n x : ℕ) (q r : Range) (e : r ≡ span x n) (t : Bool) (f : t ≡ share r q) where
   touched : (b : Bool) → t ≡ b → share (span x n) q ≡ b
@@ -55,6 +56,35 @@ module _ (x y : ℕ) where
   pub jumps_most : jumps_to x y ≤ 1
   unfolding jumps_to
   jumps_most = by-test (eqb x y) (λ t. rw t (omega arith)) (λ t. rw t (omega arith))
+
+-- the last of the bytes is past that of the window, or it is not
+module _ (n x : ℕ) (w : Range) where
+  fits : x + (n - 1) ≤ U64MAX → passes x n ≡ false
+  unfolding passes
+  fits h = le-ltb U64MAX (x + (n - 1)) h
+
+  pub room-over : w.last < x + (n - 1) → false ≡ room_at n x w
+  unfolding room_at inside span
+  room-over h =
+      sym (by-test (passes x n)
+      (λ e. rw e)
+      (λ e. and_not_right (not (passes x n)) (inside (span x n) w) (and_not_right (leb w.start x) (leb (last_of x n) w.last) (lt-leb (last_of x n) w.last (omega (arith, h, last_of-fits x n e))))))
+
+  pub room_within : x + (n - 1) ≤ w.last → w.last ≤ U64MAX → leb w.start x ≡ room_at n x w
+  unfolding room_at inside span
+  room_within h k =
+      let p = fits (omega (arith, h, k)) in
+      let l = le-leb (last_of x n) w.last (omega (arith, h, last_of-fits x n p)) in
+      same_test (leb w.start x) (not (passes x n) && inside (span x n) w)
+      (λ t. and_both (not (passes x n)) (inside (span x n) w) (rw p) (and_both (leb w.start x) (leb (last_of x n) w.last) t l))
+      (λ t. and_left (leb w.start x) (leb (last_of x n) w.last) (and_right (not (passes x n)) (inside (span x n) w) t))
+
+module _ (r s : Option ℕ) where
+  pub lower-first : (x : ℕ) → r ≡ Some x → s ≡ None → Some x ≡ lower_of r s
+  lower-first x e f = rw (e, f)
+
+  pub lower-both : (x y m : ℕ) → r ≡ Some x → s ≡ Some y → m ≡ min x y → Some m ≡ lower_of r s
+  lower-both x y m e f g = rw (e, f, g)
 
 -- ---- how many ranges still end at a place or above it
 
@@ -166,6 +196,9 @@ module _ (a n : ℕ) (rs : List Range) (d : Range) (i x : ℕ) (l : i < length r
 pub record Sweeping (a size : ℕ) (rs : List Range) (from x jumps i : ℕ) : Type 0 where
   pub onward : Onward a size rs from x jumps
   pub still : x ≡ from → any (share (span from size)) (drop i rs) ≡ any (share (span from size)) rs
+
+pub sweep_start : (a size : ℕ) (rs : List Range) (from : ℕ) → from < 0x1_0000_0000_0000_0000 → Sweeping a size rs from from 0 0
+sweep_start a size rs from h = record { onward = onward-here a size rs from h; still = λ e. refl }
 
 module _ (a size : ℕ) (rs : List Range) (from x jumps i : ℕ) (v : Sweeping a size rs from x jumps i) where
   pub sweep_small : jumps ≤ length rs

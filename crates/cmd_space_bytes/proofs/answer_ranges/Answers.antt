@@ -19,15 +19,15 @@ returns-in_err-ranges_checks c = λ e. let os = objects_in c.args.h.now in
 pub write_ranges-full-requires : goal.write_ranges-full-requires
 write_ranges-full-requires c = (omega arith, ranges-room _ _ _ _ _ c.ranges_checks.ensures (refused-ok c.ranges_checks.result c.in_ok-ranges_checks.field-0 (search rules)))
 
-pub returns-in_err-refuse_if : goal.returns-in_err-refuse_if
-returns-in_err-refuse_if c = λ e. let os = objects_in c.args.h.now in
-    let r = c.refuse_if.result in let d = c.from_residual-in_err-refuse_if.result in let n = c.in_err-refuse_if.field-0.0 in
+pub returns-in_err-fail_if : goal.returns-in_err-fail_if
+returns-in_err-fail_if c = λ e. let os = objects_in c.args.h.now in
+    let r = c.fail_if.result in let d = c.from_residual-in_err-fail_if.result in let n = c.in_err-fail_if.field-0.0 in
     let p : r ≡ Err n = search rules in let q : d ≡ Err n = search rules in
     let checks = c.ranges_checks.ensures os _ (page-known os _ _ e) in
     let passed = refused-ok c.ranges_checks.result c.in_ok-ranges_checks.field-0 (search rules) in (
       search rules,
       ranges-done os _ _ _ _ _ _ _ _ _ _ c.read32-space.ensures c.read32-count.ensures c.read32-zero.ensures checks passed
-          (c.write_ranges-full.ensures (page-aligned os _ _ e (ranges-known os _ _ _ _ _ checks passed) ∙ ap (alignment os) (sym c.read32-space.ensures))) (refused-same r d n p q ∙ c.refuse_if.ensures),
+          (c.write_ranges-full.ensures (page-aligned os _ _ e (ranges-known os _ _ _ _ _ checks passed) ∙ ap (alignment os) (sym c.read32-space.ensures))) (refused-same r d n p q ∙ c.fail_if.ensures),
     )
 
 pub returns : goal.returns
@@ -37,5 +37,5 @@ returns c = λ e. let os = objects_in c.args.h.now in
       c.tell.ensures,
       ranges-done os _ _ _ _ _ _ _ _ _ _ c.read32-space.ensures c.read32-count.ensures c.read32-zero.ensures checks passed
           (c.write_ranges-full.ensures (page-aligned os _ _ e (ranges-known os _ _ _ _ _ checks passed) ∙ ap (alignment os) (sym c.read32-space.ensures)))
-          (sym (refused-ok c.refuse_if.result c.in_ok-refuse_if.field-0 (search rules)) ∙ c.refuse_if.ensures),
+          (sym (refused-ok c.fail_if.result c.in_ok-fail_if.field-0 (search rules)) ∙ c.fail_if.ensures),
     )

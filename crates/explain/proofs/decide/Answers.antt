@@ -23,8 +23,8 @@ unfolding table_of good_board
 returns-in_default-look_up c = let a = c.args in let ms = records_of a.ws.now in let t = table_of (head_in a.h.now) ms in let b : Board = record { table = t; index = a.ix.now } in let verdict = sym (c.check.ensures.verdict ∙ ap (λ (u : Table). good u && agrees a.ix.now ms) (table_is a.h.now ms)) in by-unlisted b a.request a.cmd.now (verdict ∙ ap is_some c.in-Some.is) _ c.look_up.ensures c.in_default-look_up.is
 
 pub explain_command-requires : goal.explain_command-requires
-explain_command-requires c = opened-is _ c.args.request c.args.cmd.now _ _ _ c.look_up.ensures c.in-Some-look_up.is c.open.ensures c.opening_reason-opened.ensures
+explain_command-requires c = opened-is _ c.args.request c.args.cmd.now _ _ _ _ c.look_up.ensures c.in-Some-look_up.is c.open.ensures c.opening_reason-opened.ensures
 
 pub returns : goal.returns
 unfolding table_of good_board
-returns c = let a = c.args in let ms = records_of a.ws.now in let t = table_of (head_in a.h.now) ms in let b : Board = record { table = t; index = a.ix.now } in let verdict = sym (c.check.ensures.verdict ∙ ap (λ (u : Table). good u && agrees a.ix.now ms) (table_is a.h.now ms)) in by-listed b a.request a.cmd.now (verdict ∙ ap is_some c.in-Some.is) _ c.look_up.ensures _ (table_is a.h.now ms) _ c.in-Some-look_up.is _ c.explain_command.ensures
+returns c = let a = c.args in let ms = records_of a.ws.now in let t = table_of (head_in a.h.now) ms in let b : Board = record { table = t; index = a.ix.now } in let verdict = sym (c.check.ensures.verdict ∙ ap (λ (u : Table). good u && agrees a.ix.now ms) (table_is a.h.now ms)) in by-listed b a.request a.cmd.now (verdict ∙ ap is_some c.in-Some.is) _ c.look_up.ensures _ (table_is a.h.now ms) _ _ c.in-Some-look_up.is _ c.explain_command.ensures
