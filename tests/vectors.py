@@ -191,6 +191,13 @@ for x, y in ((0, 0), (TOP, 2**32 - 1), (0x0123456789ABCDEF, 0x89ABCDEF), (2**63,
 # ---- 13: bind's result
 for n in (1, 2, 32):
     case(13, words(n), 'id %d' % n)
+
+# ---- a word whose last bytes are missing counts as 0
+cut = struct.pack('<I', 1)
+case(8, words(0, TOP) + cut, 'reserved 1 none')
+case(9, words(0, TOP) + cut, 'allowed 1 0 none')
+case(11, cut, 'flags 0 0 0 0')
+case(12, words(TOP) + cut, 'bytes aa%saaaa%saa %d 0' % ('ff' * 8, '00' * 4, TOP))
 case(99, b'', 'unknown operation')
 
 FILES = {

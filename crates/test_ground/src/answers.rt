@@ -1,5 +1,5 @@
-// One line for each record, by its operation. A number of 32 bits stands in a word of 64: half 2 k is the low half of word k.
-use program_lines::{half, hex, number, signed, text, truth, word};
+// One line for each record, by its operation. A number of 32 bits stands in a word of 64.
+use program_lines::{decimal, hex, number, signed, text, truth, word};
 use rangelists::{Allowed, RangeList, Reserved};
 use ranges::Range;
 
@@ -21,6 +21,12 @@ pub fn answer(operation: u32, body: &[u8]) {
         _ => text(b"unknown operation"),
     }
     text(b"\n");
+}
+
+// The lowest 32 bits of a word; 0 where the body does not reach its end.
+fn low(body: &[u8], k: usize) -> u32 {
+    let [a, b, c, d, ..] = word(body, k).to_le_bytes();
+    u32::from_le_bytes([a, b, c, d])
 }
 
 // So many words from place k on.
@@ -84,7 +90,7 @@ fn page(body: &[u8]) {
 // Behind a range, which is asked of it: a count, N starts and N lasts.
 fn list<const N: usize>(body: &[u8]) -> RangeList<N> {
     RangeList {
-        count: half(body, 4),
+        count: low(body, 2),
         starts: words(body, 3),
         lasts: words(body, N.saturating_add(3)),
     }
@@ -121,7 +127,7 @@ fn open(body: &[u8]) {
 }
 
 fn flags(body: &[u8]) {
-    let f = half(body, 0);
+    let f = low(body, 0);
     text(b"flags");
     truth(opening::has_unknown(f));
     truth(opening::is_fixed(f));
@@ -133,7 +139,7 @@ fn flags(body: &[u8]) {
 fn bytes(body: &[u8]) {
     let mut b = [0xAAu8; 16];
     wire::write64(&mut b, 1, word(body, 0));
-    wire::write32(&mut b, 11, half(body, 2));
+    wire::write32(&mut b, 11, low(body, 1));
     text(b"bytes ");
     hex(&b);
     number(wire::read64(&b, 1));
@@ -143,6 +149,10 @@ fn bytes(body: &[u8]) {
 // Bind's result for an id.
 fn id(body: &[u8]) {
     let [n, ..] = word(body, 0).to_le_bytes();
-    text(b"id");
-    signed(opening::id_result(n));
+    let id = opening::id_result(n);
+    text(b"id ");
+    if id < 0 {
+        text(b"-");
+    }
+    decimal(u64::from(id.unsigned_abs()));
 }

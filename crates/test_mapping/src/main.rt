@@ -2,5 +2,5 @@
 #![tactic(auto)]
 
 fn main() {
-    test_replay::run();
+    test_replay::run_input();
 }

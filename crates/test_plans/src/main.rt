@@ -4,7 +4,7 @@
 
 ghost use Rattle.std.specs.Prelude.{◌≤◌, length};
 
-use program_lines::{STDIN_FILENO, counted, number, text};
+use program_lines::{STDIN_FILENO, counted, decimal, text};
 
 fn main() {
     let mut input = [0u8; 262144];
@@ -20,8 +20,8 @@ fn show_all(mut s: &[u8], cmd: &mut [u8], area: &mut [u8])
 {
     let mut k = 0;
     while let Some((plan, rest)) = counted(s) {
-        text(b"plan");
-        number(k);
+        text(b"plan ");
+        decimal(k);
         text(b"\n");
         plan_run::show(plan, cmd, area);
         s = rest;

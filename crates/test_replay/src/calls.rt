@@ -3,65 +3,66 @@ use crate::reading::list;
 use crate::replies::bytes;
 use crate::{reasons, stored};
 use program_lines::{half, number, signed, text, word};
-use rules_calls::Answer;
 use rules_table::Table;
 
 pub fn answer(t: Table, operation: u32, body: &[u8]) -> Table {
-    match answered(t, operation, body) {
-        Some(next) => next,
-        None => {
-            text(b"unknown operation");
-            t
-        }
-    }
-}
-
-// None, with nothing written, where there is no such operation, or its body is cut or too long.
-fn answered(t: Table, operation: u32, body: &[u8]) -> Option<Table> {
     match operation {
-        1 => Some(fresh(body)),
-        2 => Some(bind(t, body)),
-        3 => Some(attach(t, body)),
-        4 => Some(detach(t, body)),
-        5 => Some(reach(t, body)),
+        1 => fresh(body),
+        2 => bind(t, body),
+        3 => attach(t, body),
+        4 => detach(t, body),
+        5 => reach(t, body),
         6 => replied(t, 0x3B81, b"alloc", body),
         7 => destroy(t, body),
         8 => allow(t, body),
         9 => ranges(t, body),
-        10 => Some(stored::mapping(t, body)),
-        11 => Some(stored::object(t, body)),
-        12 => Some(stored::limit(t, body)),
+        10 => stored::mapping(t, body),
+        11 => stored::object(t, body),
+        12 => stored::limit(t, body),
         13 => replied(t, 0x3B85, b"map", body),
         14 => replied(t, 0x3B83, b"copy", body),
         15 => replied(t, 0x3B86, b"unmap", body),
         16 => replied(t, 0x3B87, b"other", body),
         17 => reasons::why(t, body),
-        _ => None,
+        _ => unknown(t),
     }
 }
 
-// The call's name and its result. The table that it leaves.
-fn told(name: &[u8], a: Answer) -> Table {
+// Where there is no such operation, or its body is cut or too long.
+pub fn unknown(t: Table) -> Table {
+    text(b"unknown operation");
+    t
+}
+
+// The call's name and its result.
+fn told(name: &[u8], number: i32) {
     text(name);
-    signed(a.result);
-    a.table
+    signed(number);
 }
 
 fn fresh(body: &[u8]) -> Table {
-    told(b"fresh", iommufd::fresh(word(body, 0)))
+    let a = iommufd::fresh(word(body, 0));
+    told(b"fresh", a.result);
+    a.table
 }
 
 fn bind(t: Table, body: &[u8]) -> Table {
     let l = list(body, half(body, 2), 2);
-    told(b"bind", iommufd::bind(t, word(body, 0), l))
+    let a = iommufd::bind(t, word(body, 0), l);
+    told(b"bind", a.result);
+    a.table
 }
 
 fn attach(t: Table, body: &[u8]) -> Table {
-    told(b"attach", iommufd::attach(t, half(body, 0), half(body, 1)))
+    let a = iommufd::attach(t, half(body, 0), half(body, 1));
+    told(b"attach", a.result);
+    a.table
 }
 
 fn detach(t: Table, body: &[u8]) -> Table {
-    told(b"detach", iommufd::detach(t, half(body, 0)))
+    let a = iommufd::detach(t, half(body, 0));
+    told(b"detach", a.result);
+    a.table
 }
 
 fn reach(t: Table, body: &[u8]) -> Table {
@@ -74,45 +75,60 @@ fn reach(t: Table, body: &[u8]) -> Table {
 }
 
 // The body is the command. It is changed, so it is copied. The result and the command after it.
-fn replied(t: Table, request: u32, name: &[u8], body: &[u8]) -> Option<Table> {
+fn replied(t: Table, request: u32, name: &[u8], body: &[u8]) -> Table {
     let mut buffer = [0; 64];
-    let cmd = copied(body, &mut buffer)?;
-    let next = told(name, iommufd::call(t, request, cmd, &mut []));
+    let Some(cmd) = copied(body, &mut buffer) else {
+        return unknown(t);
+    };
+    let a = iommufd::call(t, request, cmd, &mut []);
+    told(name, a.result);
     bytes(cmd);
-    Some(next)
+    a.table
 }
 
-fn destroy(t: Table, body: &[u8]) -> Option<Table> {
+fn destroy(t: Table, body: &[u8]) -> Table {
     let mut buffer = [0; 64];
-    let cmd = copied(body, &mut buffer)?;
-    Some(told(b"destroy", iommufd::call(t, 0x3B80, cmd, &mut [])))
+    let Some(cmd) = copied(body, &mut buffer) else {
+        return unknown(t);
+    };
+    let a = iommufd::call(t, 0x3B80, cmd, &mut []);
+    told(b"destroy", a.result);
+    a.table
 }
 
-fn allow(t: Table, body: &[u8]) -> Option<Table> {
-    let (head, tail) = parts(body)?;
-    let mut buffer = [0; 64];
-    let mut room = [0; 2048];
-    let cmd = copied(head, &mut buffer)?;
-    let area = copied(tail, &mut room)?;
-    Some(told(b"allow", iommufd::call(t, 0x3B82, cmd, area)))
-}
-
-fn ranges(t: Table, body: &[u8]) -> Option<Table> {
-    let (head, tail) = parts(body)?;
+fn allow(t: Table, body: &[u8]) -> Table {
     let mut buffer = [0; 64];
     let mut room = [0; 2048];
-    let cmd = copied(head, &mut buffer)?;
-    let area = copied(tail, &mut room)?;
-    let next = told(b"ranges", iommufd::call(t, 0x3B84, cmd, area));
+    let Some((cmd, area)) = both_copied(body, &mut buffer, &mut room) else {
+        return unknown(t);
+    };
+    let a = iommufd::call(t, 0x3B82, cmd, area);
+    told(b"allow", a.result);
+    a.table
+}
+
+fn ranges(t: Table, body: &[u8]) -> Table {
+    let mut buffer = [0; 64];
+    let mut room = [0; 2048];
+    let Some((cmd, area)) = both_copied(body, &mut buffer, &mut room) else {
+        return unknown(t);
+    };
+    let a = iommufd::call(t, 0x3B84, cmd, area);
+    told(b"ranges", a.result);
     bytes(cmd);
     bytes(area);
-    Some(next)
+    a.table
 }
 
-// The command behind a u64 that counts its bytes, then the range area.
-fn parts(body: &[u8]) -> Option<(&[u8], &[u8])> {
+// The command behind a u64 that counts its bytes, then the range area: a copy of each.
+fn both_copied<'a>(
+    body: &[u8],
+    buffer: &'a mut [u8],
+    room: &'a mut [u8],
+) -> Option<(&'a mut [u8], &'a mut [u8])> {
     let (count, rest) = body.split_first_chunk()?;
-    rest.split_at_checked(u64::from_le_bytes(*count) as usize)
+    let (head, tail) = rest.split_at_checked(u64::from_le_bytes(*count) as usize)?;
+    Some((copied(head, buffer)?, copied(tail, room)?))
 }
 
 // A copy in a buffer, if that has the room.

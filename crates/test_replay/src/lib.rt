@@ -11,18 +11,19 @@ mod stored;
 mod sums;
 
 // Replays the records of standard input.
-pub fn run() {
+pub fn run_input() {
     let mut input = io::large_buffer();
     let n = io::read_full(STDIN_FILENO, &mut input);
-    replay(&input[..n]);
+    run(&input[..n]);
 }
 
 // Answers each record up to the end, or up to one that is cut. The table of one record is the next one's.
-fn replay(mut s: &[u8]) {
+pub fn run(s: &[u8]) {
     let mut t = edits::fresh(0).table;
-    while let Some((operation, body, rest)) = record(s) {
+    let mut left = s;
+    while let Some((operation, body, rest)) = record(left) {
         t = calls::answer(t, operation, body);
-        replies::ending(t);
-        s = rest;
+        replies::ending(&t);
+        left = rest;
     }
 }

@@ -1,18 +1,21 @@
 // Why a command is refused: the code of the reason, its errno, the object or the record that it names, and its run as start and one less than its length.
+use crate::calls::unknown;
 use program_lines::{number, signed, text};
 use rules_reasons::Reason;
 use rules_table::Table;
 
-// The body is the request number and the command. None, with nothing written, where it is cut.
-pub fn why(t: Table, body: &[u8]) -> Option<Table> {
-    let (request, cmd) = body.split_first_chunk()?;
+// The body is the request number and the command.
+pub fn why(t: Table, body: &[u8]) -> Table {
+    let Some((request, cmd)) = body.split_first_chunk() else {
+        return unknown(t);
+    };
     let explained = explain::explain(t, u32::from_le_bytes(*request), cmd);
     text(b"why");
     match explained {
         Ok(reason) => told(reason),
         Err(errno) => signed(opening::signed_result(errno)),
     }
-    Some(t)
+    t
 }
 
 fn told(reason: Reason) {

@@ -11,9 +11,9 @@ pub fn bytes(s: &[u8]) {
 }
 
 // Whether the table is good, and the sums over all its numbers.
-pub fn ending(t: Table) {
-    truth(iommufd::is_good(t));
-    let s = sums::of_table(&t);
+pub fn ending(t: &Table) {
+    truth(iommufd::is_good(*t));
+    let s = sums::of_table(t);
     text(b" ");
     hexadecimal(s.plain, 8);
     hexadecimal(s.ordered, 8);

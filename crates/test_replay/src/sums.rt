@@ -5,15 +5,11 @@ use rules_table::{Attachment, Kind, Mapping, Object, Table};
 // 2^32 - 5, a prime.
 const PRIME: u64 = 4_294_967_291;
 
-// The sum of the numbers so far, from 1, and the sum of those sums: both modulo that prime.
+// The sum of the numbers so far, from 1, and the sum of those sums: both modulo that prime. They go by value from number to number: the compiler then sees that both are below it.
 #[derive(Clone, Copy)]
 pub struct Sums {
     pub plain: u64,
     pub ordered: u64,
-}
-
-fn sum(a: u64, b: u64) -> u64 {
-    (a % PRIME + b % PRIME) % PRIME
 }
 
 impl Sums {
@@ -25,56 +21,62 @@ impl Sums {
         }
     }
 
-    fn add(&mut self, x: u64) {
-        self.plain = sum(self.plain, x);
-        self.ordered = sum(self.ordered, self.plain);
+    fn with(self, x: u64) -> Sums {
+        let plain = (self.plain % PRIME + x % PRIME) % PRIME;
+        let ordered = (self.ordered % PRIME + plain) % PRIME;
+        Sums { plain, ordered }
     }
 
-    fn add_all(&mut self, xs: &[u64]) {
+    fn with_all(self, xs: &[u64]) -> Sums {
+        let mut sums = self;
         for x in xs {
-            self.add(*x);
+            sums = sums.with(*x);
         }
+        sums
     }
 
     // The kind's number, then the space that a device is attached to, 0 for any other object.
-    fn add_kind(&mut self, k: Kind) {
+    fn with_kind(self, k: Kind) -> Sums {
         let (number, space) = match k {
             Kind::Free => (0, 0),
             Kind::Space => (1, 0),
             Kind::Device(Attachment::Loose) => (2, 0),
             Kind::Device(Attachment::Attached(space)) => (3, u64::from(space)),
         };
-        self.add(number);
-        self.add(space);
+        self.with(number).with(space)
     }
 
-    fn add_list<const N: usize>(&mut self, l: &RangeList<N>) {
-        self.add(u64::from(l.count));
-        self.add_all(&l.starts);
-        self.add_all(&l.lasts);
+    fn with_list<const N: usize>(self, l: &RangeList<N>) -> Sums {
+        self.with(u64::from(l.count))
+            .with_all(&l.starts)
+            .with_all(&l.lasts)
     }
 
-    fn add_object(&mut self, o: &Object) {
-        self.add_kind(o.kind);
-        self.add(o.bitmap);
-        self.add_list(&o.reserved);
-        self.add_list(&o.allow);
+    fn with_object(self, o: &Object) -> Sums {
+        self.with_kind(o.kind)
+            .with(o.bitmap)
+            .with_list(&o.reserved)
+            .with_list(&o.allow)
     }
 
-    fn add_mapping(&mut self, m: &Mapping) {
-        self.add_all(&[m.space, m.rights, m.founder, m.backing].map(u64::from));
-        self.add_all(&[m.address, m.length, m.memory]);
+    fn with_mapping(self, m: &Mapping) -> Sums {
+        self.with(u64::from(m.space))
+            .with(u64::from(m.rights))
+            .with(u64::from(m.founder))
+            .with(u64::from(m.backing))
+            .with(m.address)
+            .with(m.length)
+            .with(m.memory)
     }
 }
 
 pub fn of_table(t: &Table) -> Sums {
-    let mut sums = Sums::new();
-    sums.add(t.limit);
+    let mut sums = Sums::new().with(t.limit);
     for o in &t.objects {
-        sums.add_object(o);
+        sums = sums.with_object(o);
     }
     for m in &t.mappings {
-        sums.add_mapping(m);
+        sums = sums.with_mapping(m);
     }
     sums
 }
