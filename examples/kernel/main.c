@@ -7,7 +7,9 @@
 
 #define ROUNDS 200
 #define STEPS 96
+#ifndef TIMER
 #define TIMER 60 /* of 1.193 MHz: 19,900 interrupts a second */
+#endif
 
 static struct shell shell;
 static uint64_t expected[ROUNDS][STEPS + 1];
